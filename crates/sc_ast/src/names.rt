@@ -1,0 +1,93 @@
+//! Names.
+
+ghost use Rattle.std.specs.Prelude.{◌≡◌, IfOk};
+ghost use Rattle.std.specs.List.{list_all};
+ghost use Rattle.std.specs.Option.{SomeIff};
+ghost use Rattle.sc_ast.specs.Words.{is_letter, is_name_byte, begins_with_letter, is_name, IsName};
+
+use std::alloc::{AllocError, Global};
+use std::marker::Model;
+
+/// How many bytes a name has at most.
+const MOST_BYTES: usize = 64;
+
+/// The name of a static, a model, a field or a variable: 1 to 64 ASCII letters, digits and `_`,
+/// the first of them a letter. Contracts see its bytes.
+#[derive(Debug, Drop)]
+pub struct Name {
+    bytes: Vec<u8>,
+}
+
+impl Model for Name {
+    ghost use Rattle.std.specs.Prelude.{ℕ, List};
+
+    ghost Value = { List ℕ };
+
+    ghost use Rattle.sc_ast.specs.Words.{IsName};
+
+    ghost view = { λ name. name.bytes.items };
+
+    ghost invariant = { λ name. IsName name.bytes.items };
+}
+
+impl Name {
+    /// The name that the bytes are, or None where they are none.
+    pub fn make(bytes: Vec<u8>) -> Option<Name>
+        ensures { SomeIff result (IsName bytes.items) bytes.items }
+    {
+        if is_name(bytes.as_slice()) {
+            Some(Name { bytes })
+        } else {
+            None
+        }
+    }
+
+    /// The bytes of the name.
+    pub fn bytes(&self) -> &[u8]
+        ensures bytes { result.now ≡ self.now }
+        ensures name { IsName result.now }
+    {
+        self.bytes.as_slice()
+    }
+
+    /// An equal name, in memory of its own.
+    pub fn copy(&self, alloc: Global) -> Result<Name, AllocError>
+        ensures { IfOk result (λ copy. copy ≡ self.now) }
+    {
+        let bytes = Vec::from_slice(alloc, self.bytes.as_slice())?;
+        Ok(Name { bytes })
+    }
+}
+
+fn is_letter(byte: u8) -> bool
+    ensures { result ≡ is_letter byte }
+{
+    matches!(byte, b'A'..=b'Z' | b'a'..=b'z')
+}
+
+fn is_name_byte(byte: u8) -> bool
+    ensures { result ≡ is_name_byte byte }
+{
+    is_letter(byte) || matches!(byte, b'0'..=b'9') || byte == b'_'
+}
+
+fn begins_with_letter(bytes: &[u8]) -> bool
+    ensures { result ≡ begins_with_letter bytes.now }
+{
+    match bytes {
+        [] => false,
+        [first, ..] => is_letter(*first),
+    }
+}
+
+fn are_name_bytes(bytes: &[u8]) -> bool
+    ensures { result ≡ list_all is_name_byte bytes.now }
+{
+    bytes.iter().all(|byte| is_name_byte(*byte))
+}
+
+fn is_name(bytes: &[u8]) -> bool
+    ensures { result ≡ is_name bytes.now }
+{
+    begins_with_letter(bytes) && are_name_bytes(bytes) && bytes.len() <= MOST_BYTES
+}

@@ -1,0 +1,60 @@
+//! Text values.
+
+ghost use Rattle.std.specs.Prelude.{◌≡◌, IfOk};
+ghost use Rattle.std.specs.Option.{SomeIff};
+ghost use Rattle.sc_ast.specs.Words.{IsText};
+
+use std::alloc::{AllocError, Global};
+use std::marker::Model;
+
+/// How many bytes a text has at most.
+const MOST_BYTES: usize = 4096;
+
+/// A text: UTF-8 of at most 4,096 bytes. Contracts see its bytes.
+#[derive(Debug, Drop)]
+pub struct Txt {
+    bytes: Vec<u8>,
+}
+
+impl Model for Txt {
+    ghost use Rattle.std.specs.Prelude.{ℕ, List};
+
+    ghost Value = { List ℕ };
+
+    ghost use Rattle.sc_ast.specs.Words.{IsText};
+
+    ghost view = { λ text. text.bytes.items };
+
+    ghost invariant = { λ text. IsText text.bytes.items };
+}
+
+impl Txt {
+    /// The text that the bytes are, or None where they are not UTF-8 or more than 4,096.
+    pub fn make(bytes: Vec<u8>) -> Option<Txt>
+        ensures { SomeIff result (IsText bytes.items) bytes.items }
+    {
+        if bytes.len() > MOST_BYTES {
+            return None;
+        }
+        match str::from_utf8(bytes.as_slice()) {
+            Ok(_) => Some(Txt { bytes }),
+            Err(_) => None,
+        }
+    }
+
+    /// The bytes of the text.
+    pub fn bytes(&self) -> &[u8]
+        ensures bytes { result.now ≡ self.now }
+        ensures text { IsText result.now }
+    {
+        self.bytes.as_slice()
+    }
+
+    /// An equal text, in memory of its own.
+    pub fn copy(&self, alloc: Global) -> Result<Txt, AllocError>
+        ensures { IfOk result (λ copy. copy ≡ self.now) }
+    {
+        let bytes = Vec::from_slice(alloc, self.bytes.as_slice())?;
+        Ok(Txt { bytes })
+    }
+}
