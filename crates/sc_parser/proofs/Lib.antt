@@ -1,0 +1,9 @@
+pub mod EndsAgree
+pub mod ScriptsAgree
+pub mod SetsAgree
+pub mod SpecsAgree
+pub mod Steps
+pub mod Tokens
+pub mod Turns
+pub mod Unplaced
+pub mod WholeTexts

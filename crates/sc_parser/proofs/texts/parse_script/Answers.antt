@@ -1,0 +1,22 @@
+use Rattle.std.proofs.Common.{ap, ◌∙◌}
+use Rattle.sc_ast.specs.Grammar.{SpellsScript}
+use Rattle.sc_ast.specs.Pieces.{pieces_of}
+use Rattle.sc_parser.specs.Reading.{whole, script}
+use Rattle.sc_parser.proofs.ScriptsAgree.{script-sound, script-complete}
+use Rattle.sc_parser.proofs.WholeTexts.{Reader_of, found, no_other, none_found}
+use Rattle.sc_parser.proofs.texts.parse_script.Goals as goal
+
+reader : Reader_of SpellsScript (whole script)
+reader = record { sound = script-sound; complete = script-complete }
+
+pub returns-clause-ok : goal.returns-clause-ok
+returns-clause-ok c =
+    found reader _ c.args.text.now c.in_ok-tokens.tokens.items _ (c.new.ensures ∙ ap (pieces_of c.args.text.now) c.as_slice.ensures.value) c.in_ok-tokens.ensures.ok c.script_of.ensures
+
+pub returns-clause-only : goal.returns-clause-only
+returns-clause-only c =
+    no_other reader _ c.args.text.now c.in_ok-tokens.tokens.items _ (c.new.ensures ∙ ap (pieces_of c.args.text.now) c.as_slice.ensures.value) c.in_ok-tokens.ensures.only c.script_of.ensures
+
+pub returns-clause-not_built : goal.returns-clause-not_built
+returns-clause-not_built c =
+    none_found reader _ c.args.text.now c.in_ok-tokens.tokens.items _ (c.new.ensures ∙ ap (pieces_of c.args.text.now) c.as_slice.ensures.value) c.in_ok-tokens.ensures.only c.script_of.ensures

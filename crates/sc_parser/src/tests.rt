@@ -1,0 +1,4 @@
+mod limits;
+mod refusals;
+mod shown;
+mod spellings;
