@@ -1,0 +1,7 @@
+pub mod Access
+pub mod Database
+pub mod Gain
+pub mod Outcome
+pub mod Small
+pub mod Static
+pub mod Witness
