@@ -1,0 +1,11 @@
+pub mod ConflictLemmas
+pub mod DifferenceLemmas
+pub mod EdgesLemmas
+pub mod FrontierLemmas
+pub mod HeapLemmas
+pub mod LoweringLemmas
+pub mod ModelLemmas
+pub mod OrderLemmas
+pub mod RepairLemmas
+pub mod SearchLemmas
+pub mod StateLemmas

@@ -1,0 +1,10 @@
+pub mod Conflict
+pub mod Difference
+pub mod Edges
+pub mod Lowering
+pub mod Order
+pub mod Permutation
+pub mod Potential
+pub mod Reach
+pub mod Search
+pub mod Zero
