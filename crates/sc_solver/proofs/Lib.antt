@@ -1,0 +1,10 @@
+pub mod Assigned
+pub mod ClauseStates
+pub mod Entailment
+pub mod Parts
+pub mod Problems
+pub mod Scans
+pub mod Searches
+pub mod TheoryLists
+pub mod Trails
+pub mod WorkLeft

@@ -1,0 +1,23 @@
+use Rattle.std.proofs.Common.{◌≡◌, Some, None, false, get_or, take, sym, ap, ◌∙◌}
+use Rattle.sc_solver.specs.declared.literal.PLit.{PLit}
+use Rattle.sc_solver.specs.Units.{IsFalseIn}
+use Rattle.sc_solver.specs.Trail.{value_in}
+use Rattle.sc_solver.proofs.ClauseStates.{IsPassed, IsPassed-more_false, IsPassed-more_unset}
+use Rattle.sc_solver.proofs.Trails.{value_in-None}
+use Rattle.sc_solver.proofs.units.clause_state.Goals as goal
+use Rattle.sc_solver.proofs.units.clause_state.Goals.{in-Some-false, in-None+in-None-unset}
+
+pub loop-literal-preserved : goal.loop-literal-preserved
+loop-literal-preserved c =
+    let es = c.args.trail.now.entries in
+    let clause = c.args.clause.now in
+    let d : PLit = record { var = 0; plus = false } in
+    elim c.match-literal_value.branch [
+      | in-Some-false w ↦
+          let here : IsFalseIn es (get_or clause c.loop-literal.literal-index d) = sym c.literal_value.ensures ∙ w.in-Some-false.is ∙ ap Some w.in-Some-false.field-0-test in
+          rw w.unset-is (IsPassed-more_false es clause c.loop-literal.literal-index d c.loop-literal.unset c.loop-literal-test.true c.loop-literal.invariant here)
+      | in-None+in-None-unset w ↦
+          let here : value_in es (get_or clause c.loop-literal.literal-index d).var ≡ None = value_in-None es _ (sym c.literal_value.ensures ∙ w.in-None.is) in
+          let passed : IsPassed es (take c.loop-literal.literal-index clause) None = rw w.in-None-unset.is at c.loop-literal.invariant in
+          rw w.unset-is (IsPassed-more_unset es clause c.loop-literal.literal-index d c.loop-literal-test.true passed here)
+    ]

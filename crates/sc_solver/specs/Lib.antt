@@ -1,0 +1,9 @@
+pub mod Assignment
+pub mod Clauses
+pub mod SearchView
+pub mod SolverView
+pub mod Steps
+pub mod Trail
+pub mod TrailInside
+pub mod Units
+pub mod Work

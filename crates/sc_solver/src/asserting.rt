@@ -1,0 +1,39 @@
+ghost use Rattle.std.specs.Prelude.{◌≡◌, ◌<◌, ◌↔◌, ◌++◌, length, IsTrue, IfSome, if◌then◌else◌};
+ghost use Rattle.std.specs.Option.{option_to_list};
+ghost use Rattle.sc_theory.specs.Models.{HasModel};
+ghost use Rattle.sc_solver.specs.Trail.{literal_of};
+
+use crate::literal::PLit;
+use sc_theory::Theory;
+
+/// The theory's literal for a literal, where its variable has an atom.
+pub fn theory_literal<L: Copy>(atoms: &[Option<(L, L)>], literal: PLit) -> Option<L>
+    requires { literal.var < length atoms.now }
+    ensures { result ≡ literal_of atoms.now literal }
+{
+    let (yes, no) = atoms[literal.var as usize]?;
+    Some(if literal.plus { yes } else { no })
+}
+
+/// Asserts a literal, if there is one, unless the theory has no model then.
+pub fn try_assert<T: Theory>(theory: &mut T, literal: Option<T::Lit>) -> bool
+    requires has_model { HasModel (T.models theory.old) T.meets (T.literals theory.old) }
+    requires room { length (T.literals theory.old) < T.capacity theory.old }
+    requires taken { IfSome literal (λ l. IsTrue (T.takes theory.old l)) }
+    ensures verdict { let all = T.literals theory.old ++ option_to_list literal in
+        IsTrue result ↔ HasModel (T.models theory.old) T.meets all }
+    ensures list { T.literals theory.new
+        ≡ (if result then T.literals theory.old ++ option_to_list literal else T.literals theory.old) }
+    ensures capacity { T.capacity theory.new ≡ T.capacity theory.old }
+    ensures takes { T.takes theory.new ≡ T.takes theory.old }
+    ensures models { T.models theory.new ≡ T.models theory.old }
+{
+    let Some(literal) = literal else {
+        return true;
+    };
+    if theory.assert(literal) {
+        return true;
+    }
+    theory.undo(1);
+    false
+}

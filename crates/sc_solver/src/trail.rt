@@ -1,0 +1,102 @@
+ghost use Rattle.std.specs.Prelude.{◌≡◌, ◌≢◌, ℕ, ◌<◌, [], ◌∷◌, None, IfOk, MatchOption};
+ghost use Rattle.sc_solver.specs.Trail.{value_in, literal_in};
+
+use crate::literal::PLit;
+use std::alloc::{AllocError, Global};
+use std::marker::Model;
+
+/// A literal that is true so far, and whether it was decided. One that was not follows from what
+/// was set before it.
+#[derive(Clone, Copy)]
+pub struct Entry {
+    pub literal: PLit,
+    pub decided: bool,
+}
+
+/// The literals that are true so far, in the order in which they were set, with room for each
+/// variable. Contracts see the number of variables, and the entries with the latest first.
+#[derive(Drop)]
+pub struct Trail {
+    values: Vec<Option<bool>>,
+    entries: Vec<Entry>,
+}
+
+impl Model for Trail {
+    ghost use Rattle.std.specs.Prelude.{vec_len, vec_capacity, reverse};
+    ghost use Rattle.sc_solver.specs.Trail.{TrailView};
+
+    ghost Value = { TrailView };
+
+    ghost use Rattle.sc_solver.specs.TrailInside.{IsKept};
+
+    ghost view = { λ t. record { vars = vec_len t.values; entries = reverse t.entries.items } };
+
+    ghost invariant = { λ t. IsKept t.values.items (vec_capacity t.entries) (reverse t.entries.items) };
+}
+
+impl Trail {
+    /// A trail with nothing set. `vars` is the number of variables.
+    pub fn new(alloc: Global, vars: u32) -> Result<Trail, AllocError>
+        ensures { IfOk result (λ t. t ≡ record { vars = vars; entries = [] }) }
+    {
+        let values = vec![in alloc; None; vars as usize]?;
+        let entries = Vec::with_capacity(alloc, vars as usize)?;
+        Ok(Trail { values, entries })
+    }
+
+    /// The value of a variable, where it is set.
+    pub fn value(&self, var: u32) -> Option<bool>
+        requires { var < self.now.vars }
+        ensures { result ≡ value_in self.now.entries var }
+    {
+        self.values[var as usize]
+    }
+
+    /// The value of a literal, where its variable is set.
+    pub fn literal_value(&self, literal: PLit) -> Option<bool>
+        requires { literal.var < self.now.vars }
+        ensures { result ≡ literal_in self.now.entries literal }
+    {
+        let value = self.value(literal.var)?;
+        Some(literal.value_by(value))
+    }
+
+    /// The first variable that is not set.
+    pub fn first_unset(&self) -> Option<u32>
+        ensures { MatchOption result
+            ((var : ℕ) → var < self.now.vars → value_in self.now.entries var ≢ None)
+            (λ var. (var < self.now.vars) × (value_in self.now.entries var ≡ None)) }
+    {
+        for var in 0..self.values.len() {
+            if self.values[var].is_none() {
+                return Some(var as u32);
+            }
+        }
+        None
+    }
+
+    /// Sets a variable.
+    pub fn push(&mut self, entry: Entry)
+        requires within { entry.literal.var < self.old.vars }
+        requires unset { value_in self.old.entries entry.literal.var ≡ None }
+        ensures vars { self.new.vars ≡ self.old.vars }
+        ensures entries { self.new.entries ≡ entry ∷ self.old.entries }
+    {
+        self.values[entry.literal.var as usize] = Some(entry.literal.plus);
+        match self.entries.push(entry) {
+            Ok(()) => (),
+            Err(_) => unreachable!(),
+        }
+    }
+
+    /// Takes the latest literal back.
+    pub fn pop(&mut self) -> Option<Entry>
+        ensures vars { self.new.vars ≡ self.old.vars }
+        ensures entries { MatchOption result ((self.old.entries ≡ []) × (self.new.entries ≡ []))
+            (λ e. self.old.entries ≡ e ∷ self.new.entries) }
+    {
+        let entry = self.entries.pop()?;
+        self.values[entry.literal.var as usize] = None;
+        Some(entry)
+    }
+}
