@@ -1,5 +1,5 @@
 -- Equality of trees, offsets aside.
-use Rattle.std.specs.Prelude.{◌≡◌, ℕ, List, map, Option}
+use Rattle.std.specs.Prelude.{◌≡◌, List, map}
 use Rattle.std.specs.Option.{option_map}
 use Rattle.sc_lexer.specs.Lexeme.{Lexeme}
 use Rattle.sc_ast.specs.declared.policies.Item.{Item}
