@@ -1,6 +1,6 @@
 -- What holds in each assignment that agrees with a trail: conflicts, units and flipped decisions.
 use Rattle.std.proofs.Common.{◌≡◌, ◌⊎◌, ℕ, Bool, true, false, not, cond, List, [], ◌∷◌, Option, Some, None, inl, inr, refl, sym, ap, ◌∙◌}
-use Rattle.std.specs.Bool.{OnFalse, IsTrue}
+use Rattle.std.specs.Bool.{OnTrue, OnFalse, IsTrue}
 use Rattle.std.specs.List.{All}
 use Rattle.std.specs.Option.{option_map}
 use Rattle.std.proofs.lemmas.Bool.{cases_eq, cases_Bool, both_ways}
@@ -37,10 +37,10 @@ signed-not false false = refl
 pub literal_value-negated : (a : List Bool) (l : PLit) → literal_value a (negated l) ≡ not (literal_value a l)
 literal_value-negated a l = signed-not l.plus (value_at a l.var)
 
-same_some : {A : Type 0} (x y : A) → Some x ≡ Some y → x ≡ y
+pub same_some : {A : Type 0} (x y : A) → Some x ≡ Some y → x ≡ y
 same_some x y h = cc
 
-option_map-Some : {A B : Type 0} (f : A → B) (o : Option A) (y : B) → option_map f o ≡ Some y → (x : A) × ((o ≡ Some x) × (f x ≡ y))
+pub option_map-Some : {A B : Type 0} (f : A → B) (o : Option A) (y : B) → option_map f o ≡ Some y → (x : A) × ((o ≡ Some x) × (f x ≡ y))
 option_map-Some f None y h = cc
 option_map-Some f (Some x) y h = (x, (refl, cc))
 
@@ -76,6 +76,10 @@ unit_is_true a es clause l h u met = elim (cases_Bool (literal_value a l)) [
     is_false : (x : PLit) → IsFalseIn es x ⊎ (x ≡ l) → literal_value a l ≡ false → literal_value a x ≡ false
     is_false x (inl e) f = Agrees-literal a es x false h e
     is_false x (inr e) f = ap (literal_value a) e ∙ f
+
+pub OnTrue-weaker : (b : Bool) {P Q : Type 0} → (P → Q) → OnTrue b P → OnTrue b Q
+OnTrue-weaker true f h = f h
+OnTrue-weaker false f h = tt
 
 OnFalse-weaker : (b : Bool) {P Q : Type 0} → (P → Q) → OnFalse b P → OnFalse b Q
 OnFalse-weaker true f h = tt

@@ -1,9 +1,15 @@
 -- Two states of one search have the same lawful assignments.
-use Rattle.std.proofs.Common.{ℕ, Bool, List, refl, sym, ◌∙◌}
+use Rattle.std.proofs.Common.{◌≡◌, ℕ, Bool, List, refl, sym, ◌∙◌}
+use Rattle.std.proofs.lemmas.List.Elements.{All-weaker}
 use Rattle.sc_solver.specs.declared.literal.PLit.{PLit}
 use Rattle.sc_solver.specs.declared.trail.Entry.{Entry}
+use Rattle.sc_solver.specs.Assignment.{negated}
+use Rattle.sc_solver.specs.Dropping.{IsDropped}
+use Rattle.sc_solver.specs.LearnerView.{IsLearner}
+use Rattle.sc_solver.specs.Marks.{ForcesMarked, IsRefutedMarked, IsEntailed, IsAsStrong, HasMarks}
 use Rattle.sc_solver.specs.SearchView.{SearchView, Lawful, SameProblem}
 use Rattle.sc_solver.specs.Trail.{Forces, IsRefuted}
+use Rattle.sc_solver.proofs.MarkedTrails.{AgreesMarked-fewer, refuted_both_marked}
 
 module _ {T M L : Type 0} {capacity : T → ℕ} {takes : T → L → Bool} {models : T → M → Bool} where
   pub SameProblem-refl : (s : SearchView T L) → SameProblem capacity takes models s s
@@ -42,3 +48,35 @@ module _ {T M L : Type 0} {capacity : T → ℕ} {takes : T → L → Bool} {mod
 
     pub IsRefuted-after : (es : List Entry) → IsRefuted (Lawful models meets old) es → IsRefuted (Lawful models meets new) es
     IsRefuted-after es h a lawful agrees = h a (Lawful-before a lawful) agrees
+
+    pub ForcesMarked-after : (marks : List Bool) (es : List Entry) (l : PLit) → ForcesMarked (Lawful models meets old) marks es l → ForcesMarked (Lawful models meets new) marks es l
+    ForcesMarked-after marks es l h a lawful agrees = h a (Lawful-before a lawful) agrees
+
+    pub IsRefutedMarked-after : (marks : List Bool) (es : List Entry) → IsRefutedMarked (Lawful models meets old) marks es → IsRefutedMarked (Lawful models meets new) marks es
+    IsRefutedMarked-after marks es h a lawful agrees = h a (Lawful-before a lawful) agrees
+
+    -- a literal that follows and that the theory refuses
+    pub refused_refuted : (fewer more : List Bool) (l : PLit) → new.entries ≡ old.entries → HasMarks more fewer → ForcesMarked (Lawful models meets old) fewer old.entries (negated l) → ForcesMarked (Lawful models meets new) more new.entries l → IsRefutedMarked (Lawful models meets new) more new.entries
+    refused_refuted fewer more l kept has refused forced =
+        let opposite = ForcesMarked-after fewer old.entries (negated l) refused in
+        refuted_both_marked (Lawful models meets new) more new.entries l forced
+        (λ a lawful agrees. opposite a lawful (rw (← kept) (AgreesMarked-fewer a more fewer new.entries has agrees)))
+
+    -- what was learned follows all the same
+    pub IsLearner-along : (learned : List (List PLit)) (width marks reasons scores room : ℕ) → IsLearner models meets old learned width marks reasons scores room → IsLearner models meets new learned width marks reasons scores room
+    IsLearner-along learned width marks reasons scores room h = record {
+      entailed = All-weaker (IsEntailed (Lawful models meets old)) (IsEntailed (Lawful models meets new)) (λ clause entailed a lawful. entailed a (Lawful-before a lawful)) learned h.entailed;
+      within = rw same.vars h.within;
+      wide = h.wide ∙ sym same.vars;
+      mark_each = h.mark_each ∙ sym same.vars;
+      reason_each = h.reason_each ∙ sym same.vars;
+      score_each = h.score_each ∙ sym same.vars;
+      room_for_all = h.room_for_all ∙ sym same.vars;
+    }
+
+-- what is forced lasts as marks that the others force are taken away, and levels in which nothing is marked
+pub forced_thinned : {T M L : Type 0} {capacity : T → ℕ} {takes : T → L → Bool} {models : T → M → Bool} (meets : M → L → Bool) {first second third : SearchView T L} → SameProblem capacity takes models first second → SameProblem capacity takes models second third → (marks thinned : List Bool) (vars : ℕ) (l : PLit)
+    → ForcesMarked (Lawful models meets first) marks second.entries l → IsAsStrong (Lawful models meets second) second.entries thinned marks → IsDropped thinned vars second.entries third.entries → ForcesMarked (Lawful models meets third) thinned third.entries l
+forced_thinned meets before after marks thinned vars l forced strong gone a lawful agrees =
+    let at_second = Lawful-before meets after a lawful in
+    forced a (Lawful-before meets before a at_second) (strong a at_second (gone.agrees a agrees))

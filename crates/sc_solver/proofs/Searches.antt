@@ -1,22 +1,19 @@
 -- What keeps a search in step: a theory and a trail that go on together.
-use Rattle.std.proofs.Common.{◌≡◌, ℕ, ◌<◌, ◌≤◌, ◌-◌, Bool, true, false, not, cond, List, [], ◌∷◌, ◌++◌, length, take, get_or, Option, Some, None, Result, Ok, Err, OnOk, OnErr, inl, inr, refl, ap, ◌∙◌, arith}
+use Rattle.std.proofs.Common.{◌≡◌, ℕ, ◌<◌, ◌≤◌, ◌-◌, Bool, true, false, cond, List, [], ◌∷◌, ◌++◌, length, take, get_or, Option, Some, None, Result, Ok, Err, OnOk, OnErr, refl, sym, ap, ◌∙◌, arith}
 use Rattle.std.specs.Bool.{IsTrue, OnFalse}
-use Rattle.std.specs.List.{Contains}
 use Rattle.std.specs.Option.{option_map, option_to_list, is_some, IfSome}
-use Rattle.std.proofs.lemmas.Bool.{cases_Bool}
-use Rattle.std.proofs.lemmas.List.{length-append, take_at, get_or_append_left}
-use Rattle.std.proofs.lemmas.List.Elements.{All-append, All-push}
+use Rattle.std.proofs.lemmas.List.{append-nil, length-append, take_at, get_or_append_left}
+use Rattle.std.proofs.lemmas.List.Elements.{All-push}
 use Rattle.sc_theory.specs.Models.{HasModel}
-use Rattle.sc_theory.proofs.Models.{HasModel-among, HasModel-front}
+use Rattle.sc_theory.proofs.Models.{HasModel-front}
 use Rattle.sc_solver.specs.declared.literal.PLit.{PLit}
 use Rattle.sc_solver.specs.declared.trail.Entry.{Entry}
-use Rattle.sc_solver.specs.Assignment.{literal_value, negated, theory_literals}
 use Rattle.sc_solver.specs.Clauses.{IsWithin}
-use Rattle.sc_solver.specs.SearchView.{SearchView, Lawful, IsSearch, IsTaken}
-use Rattle.sc_solver.specs.Trail.{value_in, Forces, Follows, IsTrail, literal_of, trail_literals}
-use Rattle.sc_solver.proofs.Entailment.{literal_value-negated, Follows-fewer}
+use Rattle.sc_solver.specs.SearchView.{SearchView, Lawful, IsSearch, IsKeptSearch, IsTaken}
+use Rattle.sc_solver.specs.Trail.{value_in, Forces, Follows, IsTrail, literal_of, trail_literals, trail_places}
+use Rattle.sc_solver.proofs.Entailment.{Follows-fewer}
+use Rattle.sc_solver.proofs.Places.{length-trail_places}
 use Rattle.sc_solver.proofs.Trails.{length-unset}
-use Rattle.sc_solver.proofs.TheoryLists.{literal_of-among, trail_literals-among}
 
 length-option_to_list : {X : Type 0} (o : Option X) → length (option_to_list o) ≤ 1
 length-option_to_list None = omega arith
@@ -85,17 +82,6 @@ module _ {T M L : Type 0} (literals : T → List L) (capacity : T → ℕ) (take
       IsSearch-moved s theory es h same_capacity same_takes same_models left
       (rw (same_models, left) (HasModel-front (models s.theory) meets (trail_literals s.atoms es) last had)) trail.1.1 follows.1
 
-  -- a literal that the theory refuses is false where the trail agrees
-  pub refused_forces : (s : SearchView T L) (l : PLit) → IsSearch literals capacity takes models meets s → l.var < s.vars → ¬ HasModel (models s.theory) meets (literals s.theory ++ option_to_list (literal_of s.atoms l)) → Forces (Lawful models meets s) s.entries (negated l)
-  refused_forces s l h within none a lawful agrees = elim (cases_Bool (literal_value a l)) [
-    | inl t ↦
-        let before = trail_literals-among a s.atoms s.vars s.entries lawful.one_each h.is_trail agrees in
-        let last = literal_of-among a s.atoms l (omega (arith, lawful.one_each)) t in
-        absurd (none (rw h.in_step (HasModel-among (models s.theory) meets (theory_literals a s.atoms) (trail_literals s.atoms s.entries ++ option_to_list (literal_of s.atoms l))
-        (All-append (Contains (theory_literals a s.atoms)) (trail_literals s.atoms s.entries) (option_to_list (literal_of s.atoms l)) before last) lawful.has_model)))
-    | inr f ↦ literal_value-negated a l ∙ ap not f
-  ]
-
   -- with one more clause fewer assignments are lawful
   lawful_without : (s : SearchView T L) (clause : List PLit) (a : List Bool) → Lawful models meets (record s { clauses = s.clauses ++ clause ∷ [] }) a → Lawful models meets s a
   lawful_without s clause a h = record {
@@ -120,3 +106,66 @@ module _ {T M L : Type 0} (literals : T → List L) (capacity : T → ℕ) (take
   pub IsSearch-clause : {A E : Type 0} (r : Result A E) (s : SearchView T L) (clause : List PLit) (clauses : List (List PLit)) → OnOk r (clauses ≡ s.clauses ++ clause ∷ []) → OnErr r (clauses ≡ s.clauses) → IsSearch literals capacity takes models meets s → IsWithin s.vars clause → IsSearch literals capacity takes models meets (record s { clauses = clauses })
   IsSearch-clause (Ok x) s clause clauses ok err h within = rw ok (IsSearch-more s clause h within)
   IsSearch-clause (Err x) s clause clauses ok err h within = rw err h
+
+  -- the same with the variables of the theory's literals beside it
+  pub IsKeptSearch-pushed : (s : SearchView T L) (places more : List ℕ) (places_room core_room more_room : ℕ) (theory : T) (e : Entry) → IsKeptSearch literals capacity takes models meets s places places_room core_room → IsSearch literals capacity takes models meets (record s { theory = theory; entries = e ∷ s.entries }) → more ≡ places ++ option_to_list (option_map (λ _. e.literal.var) (literal_of s.atoms e.literal)) → places_room ≤ more_room → IsKeptSearch literals capacity takes models meets (record s { theory = theory; entries = e ∷ s.entries }) more more_room core_room
+  IsKeptSearch-pushed s places more places_room core_room more_room theory e kept search is wider = record {
+    state = search;
+    places_in_step = is ∙ ap (λ vs. vs ++ option_to_list (option_map (λ _. e.literal.var) (literal_of s.atoms e.literal))) kept.places_in_step;
+    has_places_room = omega (arith, kept.has_places_room);
+    has_core_room = kept.has_core_room;
+  }
+
+  pub IsKeptSearch-popped : (s : SearchView T L) (places less : List ℕ) (places_room core_room less_room : ℕ) (theory : T) (e : Entry) (es : List Entry) → IsKeptSearch literals capacity takes models meets s places places_room core_room → IsSearch literals capacity takes models meets (record s { theory = theory; entries = es }) → s.entries ≡ e ∷ es → is_some (literal_of s.atoms e.literal) ≡ true → less ≡ take (length places - 1) places → less_room ≡ places_room → IsKeptSearch literals capacity takes models meets (record s { theory = theory; entries = es }) less less_room core_room
+  IsKeptSearch-popped s places less places_room core_room less_room theory e es kept search is some rest same =
+      let last = option_to_list (option_map (λ _. e.literal.var) (literal_of s.atoms e.literal)) in
+      let whole : places ≡ trail_places s.atoms es ++ last = kept.places_in_step ∙ ap (trail_places s.atoms) is in
+      let one : length last ≡ 1 = length-some (option_map (λ _. e.literal.var) (literal_of s.atoms e.literal)) (some_mapped (literal_of s.atoms e.literal) some) in
+      record {
+        state = search;
+        places_in_step = rest ∙ ap (λ n. take (length places - n) places) (sym one) ∙ ap (λ t. take (length t - length last) t) whole ∙ take_front (trail_places s.atoms es) last;
+        has_places_room = omega (arith, kept.has_places_room);
+        has_core_room = kept.has_core_room;
+      }
+    where
+      some_mapped : (o : Option L) → is_some o ≡ true → is_some (option_map (λ _. e.literal.var) o) ≡ true
+      some_mapped None h = h
+      some_mapped (Some x) h = refl
+
+  -- the latest literal has no atom
+  pub IsKeptSearch-plain : (s : SearchView T L) (places : List ℕ) (places_room core_room : ℕ) (e : Entry) (es : List Entry) → IsKeptSearch literals capacity takes models meets s places places_room core_room → IsSearch literals capacity takes models meets (record s { entries = es }) → s.entries ≡ e ∷ es → is_some (literal_of s.atoms e.literal) ≡ false → IsKeptSearch literals capacity takes models meets (record s { entries = es }) places places_room core_room
+  IsKeptSearch-plain s places places_room core_room e es kept search is none = record {
+    state = search;
+    places_in_step = kept.places_in_step ∙ ap (trail_places s.atoms) is ∙ no_more (literal_of s.atoms e.literal) none;
+    has_places_room = kept.has_places_room;
+    has_core_room = kept.has_core_room;
+  }
+    where
+      no_more : (o : Option L) → is_some o ≡ false → trail_places s.atoms es ++ option_to_list (option_map (λ _. e.literal.var) o) ≡ trail_places s.atoms es
+      no_more None h = append-nil (trail_places s.atoms es)
+      no_more (Some x) h = cc
+
+  pub IsKeptSearch-clause : {A E : Type 0} (r : Result A E) (s : SearchView T L) (places : List ℕ) (places_room core_room : ℕ) (clause : List PLit) (clauses : List (List PLit)) → OnOk r (clauses ≡ s.clauses ++ clause ∷ []) → OnErr r (clauses ≡ s.clauses) → IsKeptSearch literals capacity takes models meets s places places_room core_room → IsWithin s.vars clause → IsKeptSearch literals capacity takes models meets (record s { clauses = clauses }) places places_room core_room
+  IsKeptSearch-clause r s places places_room core_room clause clauses ok err kept within = record {
+    state = IsSearch-clause r s clause clauses ok err kept.state within;
+    places_in_step = kept.places_in_step;
+    has_places_room = kept.has_places_room;
+    has_core_room = kept.has_core_room;
+  }
+
+  -- nothing is set
+  pub IsKeptSearch-new : (s : SearchView T L) (places : List ℕ) (places_room core_room : ℕ) → IsSearch literals capacity takes models meets s → s.entries ≡ [] → places ≡ [] → places_room ≡ s.vars → core_room ≡ s.vars → IsKeptSearch literals capacity takes models meets s places places_room core_room
+  IsKeptSearch-new s places places_room core_room search unset none room for_core = record {
+    state = search;
+    places_in_step = none ∙ sym (ap (trail_places s.atoms) unset);
+    has_places_room = omega (arith, room);
+    has_core_room = omega (arith, for_core);
+  }
+
+  -- there is room for one more of the theory's literals, in the list of variables and in a conflict
+  pub places_short : (s : SearchView T L) (places : List ℕ) (places_room core_room : ℕ) (l : PLit) → IsKeptSearch literals capacity takes models meets s places places_room core_room → l.var < s.vars → value_in s.entries l.var ≡ None → (length places < places_room) × (length (literals s.theory) < core_room)
+  places_short s places places_room core_room l kept within unset =
+      let short = length-unset s.vars s.entries l kept.state.is_trail within unset in
+      let most = length-trail_literals s.atoms s.entries in
+      let same = length-trail_places s.vars s.atoms s.entries kept.state.is_trail in
+      (omega (arith, ap length kept.places_in_step, same, kept.has_places_room), omega (arith, ap length kept.state.in_step, kept.has_core_room))

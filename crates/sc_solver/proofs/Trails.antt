@@ -1,6 +1,9 @@
 -- Facts about trails: look-ups, and that a trail is no longer than there are variables.
-use Rattle.std.proofs.Common.{◌≡◌, ℕ, zero, suc, ◌+◌, ◌<◌, ◌≤◌, Bool, true, false, eqb, List, [], ◌∷◌, length, Option, Some, None, refl, sym, ap, ◌∙◌, arith, inl, inr}
+use Rattle.std.proofs.Common.{◌≡◌, ℕ, zero, suc, ◌+◌, ◌-◌, ◌<◌, ◌≤◌, Bool, true, false, eqb, List, [], ◌∷◌, ◌++◌, length, get_or, take, reverse, Option, Some, None, refl, sym, ap, ◌∙◌, arith, inl, inr}
+use Rattle.std.specs.List.{All}
 use Rattle.std.specs.Option.{is_some, option_map}
+use Rattle.std.proofs.lemmas.List.{length-reverse, reverse-reverse, reverse-append, get_or-reverse, take_more}
+use Rattle.std.proofs.lemmas.List.Elements.{All-nil, All-cons}
 use Rattle.std.proofs.lemmas.Bool.{eq-eqb, ne_eqb, cases_eq, cond-true, cond-false}
 use Rattle.sc_solver.specs.declared.literal.PLit.{PLit}
 use Rattle.sc_solver.specs.declared.trail.Entry.{Entry}
@@ -75,6 +78,27 @@ length-unset n es l h below fresh =
     let e : Entry = record { literal = l; decided = false } in
     let longer : IsTrail n (e ∷ es) = (below, (fresh, h)) in
     omega (arith, length-IsTrail n (e ∷ es) longer)
+
+-- each variable of a trail that is kept the other way round is below the number
+IsTrail-within : (vars : ℕ) (es : List Entry) → IsTrail vars es → All (λ (e : Entry). e.literal.var < vars) es
+IsTrail-within vars [] h = All-nil (λ (e : Entry). e.literal.var < vars)
+IsTrail-within vars (e ∷ es) h = All-cons (λ (e : Entry). e.literal.var < vars) e es h.0 (IsTrail-within vars es h.1.1)
+
+pub All-reversed : {X : Type 0} (P : X → Type 0) (xs : List X) → All P (reverse xs) → All P xs
+All-reversed P xs h k d l =
+    let n = length-reverse xs in
+    let read : get_or xs k d ≡ get_or (reverse xs) (length (reverse xs) - 1 - k) d = sym (ap (λ t. get_or t k d) (reverse-reverse xs)) ∙ get_or-reverse (reverse xs) k d (omega (arith, n)) in
+    rw read (h (length (reverse xs) - 1 - k) d (omega (arith, n)))
+
+pub reversed_within : (vars : ℕ) (xs : List Entry) → IsTrail vars (reverse xs) → All (λ (e : Entry). e.literal.var < vars) xs
+reversed_within vars xs h = All-reversed (λ (e : Entry). e.literal.var < vars) xs (IsTrail-within vars (reverse xs) h)
+
+-- the latest of the first entries
+pub reverse-take : {X : Type 0} (xs : List X) (n : ℕ) (d : X) → 0 < n → n ≤ length xs → reverse (take n xs) ≡ get_or xs (n - 1) d ∷ reverse (take (n - 1) xs)
+reverse-take xs n d positive within =
+    let back : n ≡ n - 1 + 1 = omega arith in
+    let more : take n xs ≡ take (n - 1) xs ++ get_or xs (n - 1) d ∷ [] = ap (λ k. take k xs) back ∙ take_more xs (n - 1) d (omega arith) in
+    ap reverse more ∙ reverse-append (take (n - 1) xs) (get_or xs (n - 1) d ∷ [])
 
 option_map-None : {A B : Type 0} (f : A → B) (o : Option A) → option_map f o ≡ None → o ≡ None
 option_map-None f None h = refl

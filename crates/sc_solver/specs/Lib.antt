@@ -1,5 +1,12 @@
 pub mod Assignment
 pub mod Clauses
+pub mod Dropping
+pub mod Learned
+pub mod LearnerView
+pub mod Marks
+pub mod Preferences
+pub mod Root
+pub mod Scanned
 pub mod SearchView
 pub mod SolverView
 pub mod Steps

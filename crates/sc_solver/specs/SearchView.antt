@@ -5,7 +5,7 @@ use Rattle.sc_solver.specs.declared.literal.PLit.{PLit}
 use Rattle.sc_solver.specs.declared.trail.Entry.{Entry}
 use Rattle.sc_solver.specs.Assignment.{IsLawful}
 use Rattle.sc_solver.specs.Clauses.{IsWithin}
-use Rattle.sc_solver.specs.Trail.{IsTrail, Follows, trail_literals}
+use Rattle.sc_solver.specs.Trail.{IsTrail, Follows, trail_literals, trail_places}
 
 -- what is searched, and what is set so far, the latest first
 pub record SearchView (T L : Type 0) : Type 0 where
@@ -43,3 +43,10 @@ pub record IsSearch {T M L : Type 0} (literals : T → List L) (capacity : T →
   pub room : s.vars ≤ capacity s.theory
   pub taken : All (IsTaken (takes s.theory)) s.atoms
   pub within : All (IsWithin s.vars) s.clauses
+
+-- Beside it is the variable of each of the theory's literals, with room for each variable.
+pub record IsKeptSearch {T M L : Type 0} (literals : T → List L) (capacity : T → ℕ) (takes : T → L → Bool) (models : T → M → Bool) (meets : M → L → Bool) (s : SearchView T L) (places : List ℕ) (places_room core_room : ℕ) : Type 0 where
+  pub state : IsSearch literals capacity takes models meets s
+  pub places_in_step : places ≡ trail_places s.atoms s.entries
+  pub has_places_room : s.vars ≤ places_room
+  pub has_core_room : s.vars ≤ core_room

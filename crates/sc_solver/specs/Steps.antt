@@ -1,14 +1,15 @@
 -- What a step of a search leaves.
-use Rattle.std.specs.Prelude.{◌≡◌, ℕ, suc, ◌+◌, ◌-◌, ◌<◌, ◌≤◌, Bool, List, [], length, None}
+use Rattle.std.specs.Prelude.{◌≡◌, ℕ, ◌+◌, ◌-◌, ◌<◌, ◌≤◌, Bool, List, [], length, None}
 use Rattle.sc_theory.specs.Models.{HasModel}
 use Rattle.sc_solver.specs.declared.literal.PLit.{PLit}
 use Rattle.sc_solver.specs.declared.trail.Entry.{Entry}
 use Rattle.sc_solver.specs.declared.progress.Progress.{Progress}
 use Rattle.sc_solver.specs.declared.progress.Progress.TheVariants.{Open, Refuted, Found, Exhausted}
-use Rattle.sc_solver.specs.Assignment.{SameLiterals, theory_literals, negated}
+use Rattle.sc_solver.specs.Assignment.{SameLiterals, theory_literals}
 use Rattle.sc_solver.specs.SearchView.{SearchView, Lawful}
-use Rattle.sc_solver.specs.Trail.{Forces, IsRefuted, assignment_of, value_in}
-use Rattle.sc_solver.specs.Work.{tree_size, pending}
+use Rattle.sc_solver.specs.Marks.{ForcesMarked, IsRefutedMarked}
+use Rattle.sc_solver.specs.Trail.{assignment_of, value_in}
+use Rattle.sc_solver.specs.Work.{tree_size, pending, rest}
 
 -- the assignment of the trail is lawful, and the theory has its literals
 pub record IsSolved {T M L : Type 0} (literals : T → List L) (models : T → M → Bool) (meets : M → L → Bool) (s : SearchView T L) : Type 0 where
@@ -21,12 +22,12 @@ pub record IsExhausted {T M L : Type 0} (literals : T → List L) (models : T �
   pub none_lawful : (assignment : List Bool) → ¬ Lawful models meets s assignment
   pub nothing : literals s.theory ≡ []
 
--- what is known where a search stands
-abbrev pub IsReached : {T M L : Type 0} → (T → List L) → (T → M → Bool) → (M → L → Bool) → Progress → SearchView T L → Type 0
-IsReached literals models meets Open s = Unit {0}
-IsReached literals models meets Refuted s = IsRefuted (Lawful models meets s) s.entries
-IsReached literals models meets Found s = IsSolved literals models meets s
-IsReached literals models meets Exhausted s = IsExhausted literals models meets s
+-- what is known where a search stands, of which some literals of the trail are marked
+abbrev pub IsReached : {T M L : Type 0} → (T → List L) → (T → M → Bool) → (M → L → Bool) → Progress → List Bool → SearchView T L → Type 0
+IsReached literals models meets Open marks s = Unit {0}
+IsReached literals models meets Refuted marks s = IsRefutedMarked (Lawful models meets s) marks s.entries
+IsReached literals models meets Found marks s = IsSolved literals models meets s
+IsReached literals models meets Exhausted marks s = IsExhausted literals models meets s
 
 -- a bound on the steps that are left
 abbrev pub work : {T L : Type 0} → Progress → SearchView T L → ℕ
@@ -35,9 +36,9 @@ work Refuted s = pending s.vars s.entries + 1
 work Found s = 0
 work Exhausted s = 0
 
--- a decision was taken back, and its opposite follows from what is left
-pub record IsTakenBack (Lawful : List Bool → Type 0) (vars : ℕ) (old new : List Entry) (l : PLit) : Type 0 where
+-- Literals were taken back, a decision among them, and what is left and marked forces a literal.
+pub record IsTakenBack (Lawful : List Bool → Type 0) (marks : List Bool) (vars : ℕ) (old new : List Entry) (l : PLit) : Type 0 where
   pub within : l.var < vars
   pub unset : value_in new l.var ≡ None
-  pub forced : Forces Lawful new (negated l)
-  pub less : tree_size (vars - suc (length new)) + 1 + pending vars new ≤ pending vars old
+  pub forced : ForcesMarked Lawful marks new l
+  pub less : rest vars new ≤ pending vars old

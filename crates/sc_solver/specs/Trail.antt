@@ -53,6 +53,11 @@ abbrev pub trail_literals : {L : Type 0} → List (Option (L × L)) → List Ent
 trail_literals atoms [] = []
 trail_literals atoms (e ∷ es) = trail_literals atoms es ++ option_to_list (literal_of atoms e.literal)
 
+-- the variable of each of them
+abbrev pub trail_places : {L : Type 0} → List (Option (L × L)) → List Entry → List ℕ
+trail_places atoms [] = []
+trail_places atoms (e ∷ es) = trail_places atoms es ++ option_to_list (option_map (λ _. e.literal.var) (literal_of atoms e.literal))
+
 -- the values that the trail gives to the first variables
 abbrev pub assignment_of : ℕ → List Entry → List Bool
 assignment_of vars es = map (λ var. unwrap_or (value_in es var) false) (range_with_len 0 vars)

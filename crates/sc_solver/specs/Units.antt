@@ -1,6 +1,6 @@
 -- What a clause says under a trail.
-use Rattle.std.specs.Prelude.{◌≡◌, ◌⊎◌, false, List, Some, None, All}
-use Rattle.std.specs.List.{Any, Contains}
+use Rattle.std.specs.Prelude.{◌≡◌, ◌⊎◌, ℕ, false, List, Some, None, All}
+use Rattle.std.specs.List.{Any, AllWithin, Contains}
 use Rattle.sc_solver.specs.declared.literal.PLit.{PLit}
 use Rattle.sc_solver.specs.declared.trail.Entry.{Entry}
 use Rattle.sc_solver.specs.declared.units.ClauseState.{ClauseState}
@@ -27,3 +27,9 @@ abbrev pub IsFoundIn : List Entry → List (List PLit) → ClauseState → Type 
 IsFoundIn es clauses Conflict = Any (λ clause. IsStateOf es clause Conflict) clauses
 IsFoundIn es clauses (UnitLiteral l) = Any (λ clause. IsUnit es clause l) clauses
 IsFoundIn es clauses Open = All (λ clause. IsStateOf es clause Open) clauses
+
+-- the same of the clauses from one place up to another
+abbrev pub IsFoundWithin : List Entry → List (List PLit) → ℕ → ℕ → ClauseState → Type 0
+IsFoundWithin es clauses start end Conflict = IsFoundIn es clauses Conflict
+IsFoundWithin es clauses start end (UnitLiteral l) = IsFoundIn es clauses (UnitLiteral l)
+IsFoundWithin es clauses start end Open = AllWithin (λ clause. IsStateOf es clause Open) clauses start end

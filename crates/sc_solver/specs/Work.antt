@@ -11,3 +11,7 @@ tree_size (suc n) = 4 * tree_size n
 abbrev pub pending : ℕ → List Entry → ℕ
 pending vars [] = 0
 pending vars (e ∷ es) = (if e.decided then tree_size (vars - suc (length es)) + 1 else 0) + pending vars es
+
+-- what is left below a trail once one more literal follows
+abbrev pub rest : ℕ → List Entry → ℕ
+rest vars es = tree_size (vars - suc (length es)) + 1 + pending vars es

@@ -1,6 +1,8 @@
-ghost use Rattle.std.specs.Prelude.{◌≡◌, ◌<◌, [], ◌∷◌, ◌++◌, length, IfOk, OnOk, OnErr, Some, slice_get, map};
+ghost use Rattle.sc_solver.specs.Clauses.{HasRoom};
+ghost use Rattle.std.specs.Prelude.{◌≡◌, ◌↔◌, ◌<◌, ◌≤◌, IsTrue, [], ◌∷◌, ◌++◌, length, IfOk, OnOk, OnErr, Some, slice_get, map};
 
 use crate::literal::PLit;
+use crate::room::{extend_within, push_within};
 use std::alloc::{AllocError, Global};
 use std::marker::Model;
 
@@ -11,7 +13,8 @@ pub struct Span {
     pub end: usize,
 }
 
-/// Clauses, whose literals stand one after another in one list. Contracts see the list of clauses.
+/// Clauses, whose literals stand one after another in one list. Contracts see the list of clauses,
+/// how many literals it holds, and for how many literals and clauses there is memory.
 #[derive(Drop)]
 pub struct Clauses {
     literals: Vec<PLit>,
@@ -19,14 +22,19 @@ pub struct Clauses {
 }
 
 impl Model for Clauses {
-    ghost use Rattle.std.specs.Prelude.{List};
-    ghost use Rattle.sc_solver.specs.declared.literal.PLit.{PLit};
+    ghost use Rattle.std.specs.Prelude.{vec_len, vec_capacity};
+    ghost use Rattle.sc_solver.specs.Clauses.{ClausesView};
 
-    ghost Value = { List (List PLit) };
+    ghost Value = { ClausesView };
 
     ghost use Rattle.sc_solver.specs.Clauses.{parts, IsInside};
 
-    ghost view = { λ c. parts c.literals.items c.spans.items };
+    ghost view = { λ c. record {
+      list = parts c.literals.items c.spans.items;
+      held = vec_len c.literals;
+      literal_room = vec_capacity c.literals;
+      clause_room = vec_capacity c.spans;
+    } };
 
     ghost invariant = { λ c. IsInside c.literals.items c.spans.items };
 }
@@ -34,7 +42,7 @@ impl Model for Clauses {
 impl Clauses {
     /// No clauses.
     pub fn new(alloc: Global) -> Clauses
-        ensures { result ≡ [] }
+        ensures { result.list ≡ [] }
     {
         Clauses {
             literals: Vec::new(alloc),
@@ -44,7 +52,7 @@ impl Clauses {
 
     /// These clauses.
     pub fn from_lists(alloc: Global, lists: &[Vec<PLit>]) -> Result<Clauses, AllocError>
-        ensures { IfOk result (λ c. c ≡ map (λ list. list.items) lists.now) }
+        ensures { IfOk result (λ c. c.list ≡ map (λ list. list.items) lists.now) }
     {
         let mut clauses = Clauses::new(alloc);
         for list in lists {
@@ -55,29 +63,76 @@ impl Clauses {
 
     /// How many clauses there are.
     pub fn len(&self) -> usize
-        ensures { result ≡ length self.now }
+        ensures { result ≡ length self.now.list }
     {
         self.spans.len()
     }
 
     /// The literals of the clause at a place.
     pub fn clause(&self, index: usize) -> &[PLit]
-        requires { index < length self.now }
-        ensures { slice_get self.now index ≡ Some result.now }
+        requires { index < length self.now.list }
+        ensures { slice_get self.now.list index ≡ Some result.now }
     {
         let span = self.spans[index];
         &self.literals.as_slice()[span.start..span.end]
     }
 
+    /// No clauses, with room for so many with so many literals in all.
+    pub fn with_room(alloc: Global, clauses: usize, literals: usize) -> Result<Clauses, AllocError>
+        ensures { IfOk result (λ c. c ≡ record {
+          list = [];
+          held = 0;
+          literal_room = literals;
+          clause_room = clauses;
+        }) }
+    {
+        let literals = Vec::with_capacity(alloc, literals)?;
+        let spans = Vec::with_capacity(alloc, clauses)?;
+        Ok(Clauses { literals, spans })
+    }
+
     /// Puts a clause at the end. Where memory is wanted the clauses are as before.
     pub fn push(&mut self, clause: &[PLit]) -> Result<(), AllocError>
-        ensures ok { OnOk result (self.new ≡ self.old ++ clause.now ∷ []) }
-        ensures err { OnErr result (self.new ≡ self.old) }
+        ensures ok { OnOk result (self.new.list ≡ self.old.list ++ clause.now ∷ []) }
+        ensures err { OnErr result (self.new.list ≡ self.old.list) }
     {
         let start = self.literals.len();
         self.literals.extend_from_slice(clause)?;
         let end = self.literals.len();
         self.spans.push(Span { start, end })?;
         Ok(())
+    }
+
+    /// Whether there is memory for one clause more of so many literals.
+    pub fn has_room(&self, literals: usize) -> bool
+        ensures { IsTrue result ↔ HasRoom self.now literals }
+    {
+        let held = self.literals.len();
+        let room = self.literals.capacity();
+        held <= room && literals <= room - held && self.spans.len() < self.spans.capacity()
+    }
+
+    /// Puts a clause at the end for which there is memory.
+    pub fn push_within(&mut self, clause: &[PLit])
+        requires { HasRoom self.old (length clause.now) }
+        ensures list { self.new.list ≡ self.old.list ++ clause.now ∷ [] }
+        ensures literal_room { self.old.literal_room ≤ self.new.literal_room }
+        ensures clause_room { self.old.clause_room ≤ self.new.clause_room }
+    {
+        let start = self.literals.len();
+        extend_within(&mut self.literals, clause);
+        let end = self.literals.len();
+        push_within(&mut self.spans, Span { start, end });
+    }
+
+    /// Takes all clauses out. Their memory stays.
+    pub fn clear(&mut self)
+        ensures list { self.new.list ≡ [] }
+        ensures held { self.new.held ≡ 0 }
+        ensures literal_room { self.new.literal_room ≡ self.old.literal_room }
+        ensures clause_room { self.new.clause_room ≡ self.old.clause_room }
+    {
+        self.literals.clear();
+        self.spans.clear();
     }
 }

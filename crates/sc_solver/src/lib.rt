@@ -1,25 +1,36 @@
 //! A clause solver over a decision procedure, proved once for each `Theory`.
 //!
 //! Clauses are over numbered variables. A variable may be an atom: then it stands for a literal of
-//! the theory where it is true, and for another where it is false. The search is that of Davis,
-//! Logemann and Loveland (1962): a literal that alone can meet its clause is made true, else a
-//! variable is decided, and a decision that is refuted is taken back and its opposite follows. The
-//! theory refuses a literal as soon as the literals of the atoms that are set have no model.
+//! the theory where it is true, and for another where it is false. A literal that alone can meet its
+//! clause is made true, else a variable is decided. The theory refuses a literal as soon as the
+//! literals of the atoms that are set have no model. From each conflict a clause is learned (that of
+//! the first unique implication point: Marques-Silva and Sakallah, 1999; Zhang et al., 2001), and the
+//! search goes back over all decisions that had no part in it.
 //!
 //! - `solver`: `Solver`, what callers see, and `Answer`.
-//! - `search`: the clauses, the theory and the trail in step, and the steps of a search.
+//! - `learner`: the steps of a search, and what is learned from its conflicts.
+//! - `search`: the clauses, the theory and the trail in step.
 //! - `progress`: where a search stands.
+//! - `learned`: the clauses that were learned.
+//! - `preferences`: which variable is decided next, and how.
+//! - `marking`: which literals of the trail a conflict comes from.
 //! - `units`: the scan of all clauses for one that is in conflict or a unit.
 //! - `asserting`: how a literal of the trail is asserted at the theory.
 //! - `trail`: the literals that are true so far, and which of them were decided.
 //! - `clauses`: clauses in one flat list.
+//! - `room`: pushes for which memory is there.
 //! - `literal`: `PLit`, a variable with a sign.
 #![tactic(auto)]
 
 mod asserting;
 mod clauses;
+mod learned;
+mod learner;
 mod literal;
+mod marking;
+mod preferences;
 mod progress;
+mod room;
 mod search;
 mod solver;
 #[cfg(test)]

@@ -1,19 +1,22 @@
-ghost use Rattle.std.specs.Prelude.{◌≡◌, ◌<◌, ◌≤◌, ◌+◌, ◌-◌, ◌∷◌, ◌++◌, [], None, suc, length, All, vec_len, IfOk, OnOk, OnErr, MatchOption};
+ghost use Rattle.std.specs.Prelude.{◌≡◌, ◌<◌, ◌≤◌, ◌∷◌, ◌++◌, [], None, length, All, vec_len, IfOk, IfSome, OnOk, OnErr, MatchOption, slice_set, false};
 ghost use Rattle.std.specs.Bool.{OnTrue, OnFalse};
+ghost use Rattle.std.specs.List.{Contains};
 ghost use Rattle.sc_solver.specs.Assignment.{negated};
 ghost use Rattle.sc_solver.specs.Clauses.{IsWithin};
+ghost use Rattle.sc_solver.specs.Dropping.{IsDropped, IsLevelDropped};
+ghost use Rattle.sc_solver.specs.Marks.{ForcesMarked, HasMarks, IsFreeLevel, IsEntailed, IsBackedMarked};
 ghost use Rattle.sc_solver.specs.SearchView.{Lawful, IsTaken, SameProblem};
-ghost use Rattle.sc_solver.specs.Trail.{value_in, Forces, Follows, IsRefuted, IsTrail, trail_literals};
-ghost use Rattle.sc_solver.specs.Steps.{IsSolved, IsExhausted, IsReached, IsTakenBack, work};
-ghost use Rattle.sc_solver.specs.Work.{tree_size, pending};
+ghost use Rattle.sc_solver.specs.Root.{IsEntryAt};
+ghost use Rattle.sc_solver.specs.Scanned.{IsScanned};
+ghost use Rattle.sc_solver.specs.Trail.{value_in, Forces, Follows, IsTrail, trail_literals};
 
 use crate::asserting::{theory_literal, try_assert};
 use crate::clauses::Clauses;
 use crate::literal::PLit;
-use crate::progress::Progress;
+use crate::marking::{collect, is_marked_but, mark_clause, mark_places, push_place};
 use crate::trail::{Entry, Trail};
-use crate::units::{ClauseState, find_unit};
-use sc_theory::Theory;
+use crate::units::{Found, find_unit};
+use sc_theory::{LitBuf, Theory};
 use std::alloc::{AllocError, Global};
 use std::marker::Model;
 
@@ -25,28 +28,33 @@ pub struct Search<T: Theory> {
     atoms: Vec<Option<(T::Lit, T::Lit)>>,
     theory: T,
     trail: Trail,
+    /// The variable of each literal that the theory has.
+    places: Vec<u32>,
+    /// For the conflicts of the theory.
+    core: LitBuf<u32>,
 }
 
 impl<T: Theory> Model for Search<T> {
-    ghost use Rattle.sc_solver.specs.SearchView.{SearchView, IsSearch};
+    ghost use Rattle.std.specs.Prelude.{vec_capacity};
+    ghost use Rattle.sc_solver.specs.SearchView.{SearchView, IsKeptSearch};
 
     ghost Value = { SearchView T T.Lit };
 
     ghost view = { λ s. record {
       vars = s.trail.vars;
-      clauses = s.clauses;
+      clauses = s.clauses.list;
       atoms = s.atoms.items;
       theory = s.theory;
       entries = s.trail.entries;
     } };
 
-    ghost invariant = { λ s. IsSearch T.literals T.capacity T.takes T.models T.meets (record {
+    ghost invariant = { λ s. IsKeptSearch T.literals T.capacity T.takes T.models T.meets (record {
       vars = s.trail.vars;
-      clauses = s.clauses;
+      clauses = s.clauses.list;
       atoms = s.atoms.items;
       theory = s.theory;
       entries = s.trail.entries;
-    }) };
+    }) s.places.items (vec_capacity s.places) s.core.capacity };
 }
 
 impl<T: Theory + Drop> Search<T> {
@@ -62,21 +70,25 @@ impl<T: Theory + Drop> Search<T> {
         requires room { vars ≤ T.capacity theory }
         requires one_each { vec_len atoms ≡ vars }
         requires taken { All (IsTaken (T.takes theory)) atoms.items }
-        requires within { All (IsWithin vars) clauses }
+        requires within { All (IsWithin vars) clauses.list }
         ensures { IfOk result (λ s. s ≡ record {
           vars = vars;
-          clauses = clauses;
+          clauses = clauses.list;
           atoms = atoms.items;
           theory = theory;
           entries = [];
         }) }
     {
         let trail = Trail::new(alloc, vars)?;
+        let places = Vec::with_capacity(alloc, vars as usize)?;
+        let core = LitBuf::new(alloc, vars as usize)?;
         Ok(Search {
             clauses,
             atoms,
             theory,
             trail,
+            places,
+            core,
         })
     }
 }
@@ -107,23 +119,42 @@ impl<T: Theory> Search<T> {
         self.clauses.push(clause)
     }
 
-    /// Makes a literal true, unless the theory refuses it.
-    pub fn assign(&mut self, entry: Entry) -> bool
+    /// What is set so far.
+    pub fn trail(&self) -> &Trail
+        ensures vars { result.now.vars ≡ self.now.vars }
+        ensures entries { result.now.entries ≡ self.now.entries }
+        ensures is_trail { IsTrail self.now.vars self.now.entries }
+    {
+        &self.trail
+    }
+
+    /// How many literals are set.
+    pub fn len(&self) -> usize
+        ensures { result ≡ length self.now.entries }
+    {
+        self.trail.entries().len()
+    }
+
+    /// Makes a literal true, unless the theory refuses it. Then the literals that are why get marks.
+    pub fn assign(&mut self, entry: Entry, marks: &mut [bool]) -> bool
         requires within { entry.literal.var < self.old.vars }
         requires unset { value_in self.old.entries entry.literal.var ≡ None }
         requires follows { OnFalse entry.decided
             (Forces (Lawful T.models T.meets self.old) self.old.entries entry.literal) }
+        requires one_each { length marks.old ≡ self.old.vars }
         ensures problem { SameProblem T.capacity T.takes T.models self.old self.new }
         ensures taken { OnTrue result (self.new.entries ≡ entry ∷ self.old.entries) }
         ensures refused { OnFalse result (self.new.entries ≡ self.old.entries) }
-        ensures why { OnFalse result
-            (Forces (Lawful T.models T.meets self.old) self.old.entries (negated entry.literal)) }
+        ensures why { OnFalse result (ForcesMarked (Lawful T.models T.meets self.old) marks.new
+            self.old.entries (negated entry.literal)) }
         ensures room { length self.old.entries < self.old.vars }
     {
         let literal = theory_literal(self.atoms.as_slice(), entry.literal);
-        if !try_assert(&mut self.theory, literal) {
+        if !try_assert(&mut self.theory, literal, &mut self.core) {
+            mark_places(self.places.as_slice(), self.core.items(), marks);
             return false;
         }
+        push_place(&mut self.places, literal, entry.literal.var);
         self.trail.push(entry);
         true
     }
@@ -140,6 +171,7 @@ impl<T: Theory> Search<T> {
         let entry = self.trail.pop()?;
         if theory_literal(self.atoms.as_slice(), entry.literal).is_some() {
             self.theory.undo(1);
+            self.places.pop();
         }
         Some(entry)
     }
@@ -153,107 +185,76 @@ impl<T: Theory> Search<T> {
         while self.pop().is_some() {}
     }
 
-    /// Takes literals back up to the latest decision, which goes too.
-    fn pop_decision(&mut self) -> Option<PLit>
-        requires { IsRefuted (Lawful T.models T.meets self.old) self.old.entries }
+    /// Takes literals back up to the latest decision, which goes too. None of them is marked.
+    pub fn pop_level(&mut self, marks: &[bool])
+        requires { IsFreeLevel marks.now self.old.entries }
         ensures problem { SameProblem T.capacity T.takes T.models self.old self.new }
-        ensures cases { MatchOption result (IsExhausted T.literals T.models T.meets self.new)
-            (IsTakenBack (Lawful T.models T.meets self.old) self.old.vars self.old.entries
-            self.new.entries) }
+        ensures dropped { IsLevelDropped marks.now self.old.vars self.old.entries self.new.entries }
     {
         while let Some(entry) = self.pop() {
             if entry.decided {
-                return Some(entry.literal);
+                return;
             }
         }
-        None
     }
 
-    /// Makes a literal true that follows from what is set.
-    fn follow(&mut self, literal: PLit) -> Progress
-        requires within { literal.var < self.old.vars }
-        requires unset { value_in self.old.entries literal.var ≡ None }
-        requires forced { Forces (Lawful T.models T.meets self.old) self.old.entries literal }
-        ensures problem { SameProblem T.capacity T.takes T.models self.old self.new }
-        ensures reached { IsReached T.literals T.models T.meets result self.new }
-        ensures less { let vars = self.old.vars in
-            work result self.new
-            ≤ tree_size (vars - suc (length self.old.entries)) + pending vars self.old.entries + 1 }
-        ensures room { length self.old.entries < self.old.vars }
+    /// A conflict or unit among the clauses, or `Open` where there is none. The scan begins at the
+    /// clause `from` and goes round.
+    pub fn find_unit(&self, from: usize) -> Found
+        ensures { IsScanned T.literals T.models T.meets result.state self.now }
     {
-        let entry = Entry {
-            literal,
-            decided: false,
-        };
-        if self.assign(entry) {
-            Progress::Open
+        find_unit(&self.trail, &self.clauses, from)
+    }
+
+    /// Marks what shows by a clause that a literal follows, or where there is none that the clause
+    /// is in conflict. Says whether the clause shows that.
+    pub fn mark_clause(&self, index: usize, literal: Option<PLit>, marks: &mut [bool]) -> bool
+        requires { length marks.old ≡ self.now.vars }
+        ensures more { HasMarks marks.new marks.old }
+        ensures shown { OnTrue result (IsBackedMarked (Lawful T.models T.meets self.now) marks.new
+            self.now.entries literal) }
+    {
+        if index < self.clauses.len() {
+            mark_clause(&self.trail, self.clauses.clause(index), literal, marks)
         } else {
-            Progress::Refuted
+            false
         }
     }
 
-    /// Decides that a variable is true, or makes it false where the theory refuses that.
-    fn decide(&mut self, var: u32) -> Progress
-        requires within { var < self.old.vars }
-        requires unset { value_in self.old.entries var ≡ None }
-        ensures problem { SameProblem T.capacity T.takes T.models self.old self.new }
-        ensures reached { IsReached T.literals T.models T.meets result self.new }
-        ensures less { work result self.new < work Progress.Open self.old }
+    /// Whether a clause shows that a literal follows from the marked ones without its own mark.
+    pub fn is_explained(&self, index: usize, literal: PLit, marks: &[bool]) -> bool
+        requires { length marks.now ≡ self.now.vars }
+        ensures { OnTrue result (ForcesMarked (Lawful T.models T.meets self.now)
+            (slice_set marks.now literal.var false) self.now.entries literal) }
     {
-        let literal = PLit { var, plus: true };
-        let entry = Entry {
-            literal,
-            decided: true,
-        };
-        if self.assign(entry) {
-            return Progress::Open;
-        }
-        self.follow(literal.opposite())
-    }
-
-    /// Goes back to the latest decision and takes its other side.
-    fn backtrack(&mut self) -> Progress
-        requires { IsRefuted (Lawful T.models T.meets self.old) self.old.entries }
-        ensures problem { SameProblem T.capacity T.takes T.models self.old self.new }
-        ensures reached { IsReached T.literals T.models T.meets result self.new }
-        ensures less { work result self.new < work Progress.Refuted self.old }
-    {
-        match self.pop_decision() {
-            None => Progress::Exhausted,
-            Some(literal) => self.follow(literal.opposite()),
+        if index < self.clauses.len() {
+            is_marked_but(&self.trail, self.clauses.clause(index), literal, marks)
+        } else {
+            false
         }
     }
 
-    /// Goes on by a conflict, a unit or a decision.
-    fn advance(&mut self) -> Progress
-        ensures problem { SameProblem T.capacity T.takes T.models self.old self.new }
-        ensures reached { IsReached T.literals T.models T.meets result self.new }
-        ensures less { work result self.new < work Progress.Open self.old }
+    /// The literal at a place of the trail, counted from the oldest on.
+    pub fn entry(&self, place: usize) -> Entry
+        requires { place < length self.now.entries }
+        ensures within { result.literal.var < self.now.vars }
+        ensures here { IsEntryAt (Lawful T.models T.meets self.now) self.now.entries place result }
     {
-        match find_unit(&self.trail, &self.clauses) {
-            ClauseState::Conflict => Progress::Refuted,
-            ClauseState::UnitLiteral(literal) => self.follow(literal),
-            ClauseState::Open => match self.trail.first_unset() {
-                Some(var) => self.decide(var),
-                None => Progress::Found,
-            },
-        }
+        self.trail.entries()[place]
     }
 
-    /// Goes on until there is a lawful assignment or none is left, and says whether there is one.
-    pub fn run(&mut self) -> bool
-        ensures problem { SameProblem T.capacity T.takes T.models self.old self.new }
-        ensures found { OnTrue result (IsSolved T.literals T.models T.meets self.new) }
-        ensures none_left { OnFalse result (IsExhausted T.literals T.models T.meets self.new) }
+    /// Makes a clause of a literal that the marked ones force, and of their opposites.
+    pub fn collect(&self, literal: PLit, marks: &[bool], clause: &mut LitBuf<PLit>)
+        requires within { literal.var < self.now.vars }
+        requires unset { value_in self.now.entries literal.var ≡ None }
+        requires one_each { length marks.now ≡ self.now.vars }
+        requires forced { ForcesMarked (Lawful T.models T.meets self.now) marks.now self.now.entries literal }
+        requires room { clause.old.capacity ≡ self.now.vars }
+        ensures entailed { IsEntailed (Lawful T.models T.meets self.now) clause.new.items }
+        ensures within { IsWithin self.now.vars clause.new.items }
+        ensures few { length clause.new.items ≤ self.now.vars }
+        ensures capacity { clause.new.capacity ≡ clause.old.capacity }
     {
-        let mut progress = Progress::Open;
-        loop {
-            match progress {
-                Progress::Open => progress = self.advance(),
-                Progress::Refuted => progress = self.backtrack(),
-                Progress::Found => return true,
-                Progress::Exhausted => return false,
-            }
-        }
+        collect(self.trail.entries(), literal, marks, clause);
     }
 }

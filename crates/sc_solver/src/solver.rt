@@ -6,8 +6,8 @@ ghost use Rattle.sc_solver.specs.SearchView.{IsTaken};
 ghost use Rattle.sc_solver.specs.SolverView.{IsLawfulFor, SameTerms};
 
 use crate::clauses::Clauses;
+use crate::learner::Learner;
 use crate::literal::PLit;
-use crate::search::Search;
 use sc_theory::Theory;
 use std::alloc::{AllocError, Global};
 use std::marker::Model;
@@ -25,11 +25,12 @@ pub enum Answer {
 ///
 /// An assignment is lawful where it meets each clause and the literals of all atoms, each the one
 /// for its variable's value, have a model. All memory but that of clauses which are added is taken
-/// by `new`. The search is that of Davis, Logemann and Loveland, "A machine program for
-/// theorem-proving" (1962).
+/// by `new`. The search learns a clause from each conflict and goes back over the decisions that had
+/// no part in it: Marques-Silva and Sakallah, "GRASP: a search algorithm for propositional
+/// satisfiability" (1999).
 #[derive(Drop)]
 pub struct Solver<T: Theory> {
-    search: Search<T>,
+    learner: Learner<T>,
     solved: bool,
 }
 
@@ -41,11 +42,11 @@ impl<T: Theory> Model for Solver<T> {
     ghost Value = { SolverView T T.Lit };
 
     ghost view = { λ s. record {
-      vars = s.search.vars;
-      clauses = s.search.clauses;
-      atoms = s.search.atoms;
-      theory = s.search.theory;
-      assignment = if s.solved then Some (assignment_of s.search.vars s.search.entries) else None;
+      vars = s.learner.state.vars;
+      clauses = s.learner.state.clauses;
+      atoms = s.learner.state.atoms;
+      theory = s.learner.state.theory;
+      assignment = if s.solved then Some (assignment_of s.learner.state.vars s.learner.state.entries) else None;
     } };
 }
 
@@ -77,9 +78,9 @@ impl<T: Theory + Drop> Solver<T> {
         }) }
     {
         let clauses = Clauses::from_lists(alloc, clauses)?;
-        let search = Search::new(alloc, vars, clauses, atoms, theory)?;
+        let learner = Learner::new(alloc, vars, clauses, atoms, theory)?;
         Ok(Solver {
-            search,
+            learner,
             solved: false,
         })
     }
@@ -96,8 +97,8 @@ impl<T: Theory> Solver<T> {
         ensures kept { SameTerms T.capacity T.takes T.models self.old self.new }
         ensures err { OnErr result (self.new ≡ self.old) }
     {
-        self.search.push_clause(clause)?;
-        self.search.restart();
+        self.learner.push_clause(clause)?;
+        self.learner.restart();
         self.solved = false;
         Ok(())
     }
@@ -116,8 +117,8 @@ impl<T: Theory> Solver<T> {
         ensures clauses { self.new.clauses ≡ self.old.clauses }
         ensures kept { SameTerms T.capacity T.takes T.models self.old self.new }
     {
-        self.search.restart();
-        self.solved = self.search.run();
+        self.learner.restart();
+        self.solved = self.learner.run();
         if self.solved {
             Answer::Sat
         } else {
@@ -131,7 +132,7 @@ impl<T: Theory> Solver<T> {
         requires within { literal.var < self.now.vars }
         ensures { IfSome self.now.assignment (λ assignment. result ≡ literal_value assignment literal) }
     {
-        let value = self.search.value(literal.var).unwrap_or(false);
+        let value = self.learner.value(literal.var).unwrap_or(false);
         literal.value_by(value)
     }
 
@@ -139,6 +140,6 @@ impl<T: Theory> Solver<T> {
     pub fn theory(&self) -> &T
         ensures { result.now ≡ self.now.theory }
     {
-        self.search.theory()
+        self.learner.theory()
     }
 }

@@ -1,4 +1,5 @@
-ghost use Rattle.std.specs.Prelude.{◌≡◌, ◌≢◌, ℕ, ◌<◌, [], ◌∷◌, None, IfOk, MatchOption};
+ghost use Rattle.std.specs.Prelude.{◌≡◌, ◌↔◌, ◌<◌, IsTrue, [], ◌∷◌, None, length, reverse, IfOk, MatchOption};
+ghost use Rattle.sc_solver.specs.Marks.{IsFreeLevel};
 ghost use Rattle.sc_solver.specs.Trail.{value_in, literal_in};
 
 use crate::literal::PLit;
@@ -61,18 +62,30 @@ impl Trail {
         Some(literal.value_by(value))
     }
 
-    /// The first variable that is not set.
-    pub fn first_unset(&self) -> Option<u32>
-        ensures { MatchOption result
-            ((var : ℕ) → var < self.now.vars → value_in self.now.entries var ≢ None)
-            (λ var. (var < self.now.vars) × (value_in self.now.entries var ≡ None)) }
+    /// The literals that are true so far, the oldest first.
+    pub fn entries(&self) -> &[Entry]
+        ensures { self.now.entries ≡ reverse result.now }
     {
-        for var in 0..self.values.len() {
-            if self.values[var].is_none() {
-                return Some(var as u32);
+        self.entries.as_slice()
+    }
+
+    /// Whether nothing is marked from the latest decision on.
+    pub fn is_free_level(&self, marks: &[bool]) -> bool
+        requires { length marks.now ≡ self.now.vars }
+        ensures { IsTrue result ↔ IsFreeLevel marks.now self.now.entries }
+    {
+        let mut left = self.entries.len();
+        while left > 0 {
+            left -= 1;
+            let entry = self.entries[left];
+            if marks[entry.literal.var as usize] {
+                return false;
+            }
+            if entry.decided {
+                return true;
             }
         }
-        None
+        false
     }
 
     /// Sets a variable.

@@ -1,6 +1,6 @@
-ghost use Rattle.std.specs.Prelude.{◌≡◌, ◌<◌, All};
+ghost use Rattle.std.specs.Prelude.{◌≡◌, ◌<◌, ◌≤◌, length, All};
 ghost use Rattle.sc_solver.specs.Clauses.{IsWithin};
-ghost use Rattle.sc_solver.specs.Units.{IsStateOf, IsFoundIn};
+ghost use Rattle.sc_solver.specs.Units.{IsStateOf, IsFoundIn, IsFoundWithin};
 
 use crate::clauses::Clauses;
 use crate::literal::PLit;
@@ -39,16 +39,42 @@ pub fn clause_state(trail: &Trail, clause: &[PLit]) -> ClauseState
     }
 }
 
-/// The first conflict or unit that a scan of all clauses meets, or `Open` where there is none.
-pub fn find_unit(trail: &Trail, clauses: &Clauses) -> ClauseState
-    requires { All (IsWithin trail.now.vars) clauses.now }
-    ensures { IsFoundIn trail.now.entries clauses.now result }
+/// What a scan met, and at which clause.
+#[derive(Clone, Copy)]
+pub struct Found {
+    pub state: ClauseState,
+    pub clause: usize,
+}
+
+/// The first conflict or unit that a scan of all clauses meets, or `Open` where there is none. The
+/// scan begins at the clause `from` and goes round.
+pub fn find_unit(trail: &Trail, clauses: &Clauses, from: usize) -> Found
+    requires { All (IsWithin trail.now.vars) clauses.now.list }
+    ensures { IsFoundIn trail.now.entries clauses.now.list result.state }
 {
-    for index in 0..clauses.len() {
-        match clause_state(trail, clauses.clause(index)) {
+    let count = clauses.len();
+    let middle = from.min(count);
+    let found = scan(trail, clauses, middle, count);
+    match found.state {
+        ClauseState::Open => scan(trail, clauses, 0, middle),
+        _ => found,
+    }
+}
+
+/// The first conflict or unit among the clauses from `start` up to `end`.
+fn scan(trail: &Trail, clauses: &Clauses, start: usize, end: usize) -> Found
+    requires within { All (IsWithin trail.now.vars) clauses.now.list }
+    requires inside { end ≤ length clauses.now.list }
+    ensures { IsFoundWithin trail.now.entries clauses.now.list start end result.state }
+{
+    for clause in start..end {
+        match clause_state(trail, clauses.clause(clause)) {
             ClauseState::Open => (),
-            found => return found,
+            state => return Found { state, clause },
         }
     }
-    ClauseState::Open
+    Found {
+        state: ClauseState::Open,
+        clause: end,
+    }
 }

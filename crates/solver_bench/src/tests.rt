@@ -77,31 +77,50 @@ fn a_choice_between_a_chain_and_a_cycle_is_refuted(rt: HostRuntime) -> Result<()
     Ok(())
 }
 
-/// Twelve plain variables that do not matter, and then the chain or the cycle: of a literal of the
-/// one and a literal of the other, at least one is to hold.
+/// Forty-eight plain variables that do not matter, and then the chain or the cycle: of a literal of
+/// the one and a literal of the other, at least one is to hold. A search that goes back over its
+/// decisions one by one would meet the conflict once for each way to set the plain variables.
 #[test]
 fn a_conflict_is_not_of_the_first_decisions(rt: HostRuntime) -> Result<(), Fail> {
-    let clauses: [&[i32]; 15] = [
+    let clauses: [&[i32]; 33] = [
         &[1, 2],
         &[3, 4],
         &[5, 6],
         &[7, 8],
         &[9, 10],
         &[11, 12],
-        &[13, 16],
-        &[13, 17],
-        &[13, 18],
-        &[14, 16],
-        &[14, 17],
-        &[14, 18],
-        &[-15, 16],
-        &[-15, 17],
-        &[-15, 18],
+        &[13, 14],
+        &[15, 16],
+        &[17, 18],
+        &[19, 20],
+        &[21, 22],
+        &[23, 24],
+        &[25, 26],
+        &[27, 28],
+        &[29, 30],
+        &[31, 32],
+        &[33, 34],
+        &[35, 36],
+        &[37, 38],
+        &[39, 40],
+        &[41, 42],
+        &[43, 44],
+        &[45, 46],
+        &[47, 48],
+        &[49, 52],
+        &[49, 53],
+        &[49, 54],
+        &[50, 52],
+        &[50, 53],
+        &[50, 54],
+        &[-51, 52],
+        &[-51, 53],
+        &[-51, 54],
     ];
     let found = decide(
         &rt,
         rt.alloc(),
-        12,
+        48,
         negative_cycle().as_slice(),
         clauses.as_slice(),
     )?;

@@ -11,8 +11,10 @@ use sc_theory::{Equality, EqualityLit, Pair, PairLit, Theory};
 use std::alloc::{AllocError, Global};
 use std::process::Abort;
 
+/// Equality of terms beside differences of numbers.
 pub type Mixed = Pair<Equality, Order>;
 
+/// A literal of either.
 pub type MixedLit = PairLit<EqualityLit, Diff>;
 
 /// The value of each variable, and a model.

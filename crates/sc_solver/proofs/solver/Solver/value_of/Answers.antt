@@ -8,7 +8,7 @@ use Rattle.sc_solver.proofs.solver.Solver.value_of.Goals as goal
 
 pub returns : goal.returns
 returns g c =
-    let s = c.self.inside.search in
+    let s = c.self.inside.learner.state in
     let l = c.args.literal in
     let vars = ap (λ (v : SolverView _ _). v.vars) c.self.view_is in
     let value : c.unwrap_or-value.result ≡ value_at (assignment_of s.vars s.entries) l.var = c.unwrap_or-value.ensures ∙ ap (λ o. unwrap_or o false) c.value.ensures ∙ sym (value_at-assigned s.vars s.entries l.var (rw vars c.requires.within)) in

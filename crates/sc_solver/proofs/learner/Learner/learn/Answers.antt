@@ -1,0 +1,19 @@
+use Rattle.std.proofs.Common.{◌≡◌, length, ap, ◌∙◌, rules}
+use Rattle.sc_solver.specs.Preferences.{PreferencesView}
+use Rattle.sc_solver.proofs.Scores.{length-raised_all, length-aged}
+use Rattle.sc_solver.proofs.learner.Learner.learn.Goals as goal
+
+pub invariant_of-self : goal.invariant_of-self
+invariant_of-self g c =
+    let size = λ (p : PreferencesView). length p.scores in
+    let scores : length c.age.new.self.scores ≡ length c.self.inside.preferences.scores =
+    ap size c.age.ensures ∙ length-aged c.raise_all.new.self ∙ ap size c.raise_all.ensures ∙ length-raised_all c.self.inside.preferences c.items.result.now in
+    record {
+      entailed = search rules;
+      within = search rules;
+      wide = search rules;
+      mark_each = search rules;
+      reason_each = search rules;
+      score_each = scores ∙ c.self.invariant.score_each;
+      room_for_all = search rules;
+    }

@@ -1,0 +1,53 @@
+use Rattle.std.proofs.Common.{◌≡◌, ◌≤◌, ap, sym, subst, ◌∙◌}
+use Rattle.sc_solver.specs.LearnerView.{LearnerView}
+use Rattle.sc_solver.specs.Marks.{IsRefutedMarked}
+use Rattle.sc_solver.specs.SearchView.{Lawful, SameProblem}
+use Rattle.sc_solver.specs.Work.{pending}
+use Rattle.sc_solver.proofs.Problems.{SameProblem-sym, SameProblem-trans, ForcesMarked-after}
+use Rattle.sc_solver.proofs.TakenBack.{point_taken_back, decision_taken_back, explained_refuted, no_more_below}
+use Rattle.sc_solver.proofs.learner.Learner.pop_to_point.Goals as goal
+
+pub returns-then-entry-clause-cases : goal.returns-then-entry-clause-cases
+returns-then-entry-clause-cases g c =
+    let T = g.T.Theory in
+    let first = c.args.self.now.state in
+    let second = c.self.inside.state in
+    let vars : second.vars ≡ first.vars = ap (λ (v : LearnerView _ _). v.state.vars) c.self.view_is ∙ c.loop-entry.invariant.problem.vars in
+    let refuted = subst (λ (v : LearnerView _ _). IsRefutedMarked (Lawful T.models T.meets first) v.marks v.state.entries) (sym c.self.view_is) c.loop-entry.invariant.refuted in
+    let no_more = subst (λ (v : LearnerView _ _). pending first.vars v.state.entries ≤ pending first.vars first.entries) (sym c.self.view_is) c.loop-entry.invariant.no_more in
+    rw c.opposite.ensures
+    (decision_taken_back (Lawful T.models T.meets first) first.vars c.self.inside.marks.items first.entries second.entries c.in-Some.entry c.pop.new.self.entries
+    c.in-Some.ensures.entries c.if-entry.true (rw vars at c.pop.ensures.trail) refuted no_more)
+
+pub returns-then-pop_free_level-clause-cases : goal.returns-then-pop_free_level-clause-cases
+returns-then-pop_free_level-clause-cases g c =
+    let T = g.T.Theory in
+    let first = c.args.self.now.state in
+    let second = c.self.inside.state in
+    let vars : second.vars ≡ first.vars = ap (λ (v : LearnerView _ _). v.state.vars) c.self.view_is ∙ c.loop-entry.invariant.problem.vars in
+    let refuted = subst (λ (v : LearnerView _ _). IsRefutedMarked (Lawful T.models T.meets first) v.marks v.state.entries) (sym c.self.view_is) c.loop-entry.invariant.refuted in
+    let no_more = subst (λ (v : LearnerView _ _). pending first.vars v.state.entries ≤ pending first.vars first.entries) (sym c.self.view_is) c.loop-entry.invariant.no_more in
+    rw (c.opposite-then-pop_free_level.ensures, c.pop_free_level.ensures.marks)
+    (point_taken_back (Lawful T.models T.meets first) first.vars c.self.inside.marks.items first.entries second.entries c.in-Some.entry c.pop.new.self.entries c.pop_free_level.new.self.state.entries
+    c.in-Some.ensures.entries (rw vars at c.pop.ensures.trail) refuted no_more
+    (rw (c.pop.ensures.problem.vars, vars) at c.if-pop_free_level.ensures.dropped))
+
+pub loop-entry-preserved-then-index : goal.loop-entry-preserved-then-index
+loop-entry-preserved-then-index g c =
+    let T = g.T.Theory in
+    let first = c.args.self.now.state in
+    let second = c.self.inside.state in
+    let es = c.pop.new.self.entries in
+    let more = c.explain.new.self.marks in
+    let before = subst (λ (v : LearnerView _ _). SameProblem T.capacity T.takes T.models first v.state) (sym c.self.view_is) c.loop-entry.invariant.problem in
+    let after = SameProblem-trans before (SameProblem-trans c.pop.ensures.problem c.pop_free_level.ensures.problem) in
+    let refuted = subst (λ (v : LearnerView _ _). IsRefutedMarked (Lawful T.models T.meets first) v.marks v.state.entries) (sym c.self.view_is) c.loop-entry.invariant.refuted in
+    let no_more = subst (λ (v : LearnerView _ _). pending first.vars v.state.entries ≤ pending first.vars first.entries) (sym c.self.view_is) c.loop-entry.invariant.no_more in
+    let has = rw c.pop_free_level.ensures.marks at c.explain.ensures.more in
+    let forced = ForcesMarked-after T.meets (SameProblem-sym after) more es c.in-Some.entry.literal (rw c.if-pop_free_level.ensures.kept at c.explain.ensures.marked) in
+    rw c.explain.ensures.state (record {
+      problem = after;
+      refuted = rw c.if-pop_free_level.ensures.kept
+          (explained_refuted (Lawful T.models T.meets first) first.vars more c.self.inside.marks.items second.entries c.in-Some.entry es c.in-Some.ensures.entries has forced refuted);
+      no_more = rw c.if-pop_free_level.ensures.kept (no_more_below first.vars first.entries second.entries c.in-Some.entry es c.in-Some.ensures.entries no_more);
+    })

@@ -1,0 +1,13 @@
+-- What is known where the search stands.
+use Rattle.sc_solver.specs.SearchView.{SameProblem}
+use Rattle.sc_solver.specs.Steps.{IsReached, work}
+use Rattle.sc_solver.proofs.learner.Learner.run.Given as goal
+
+abbrev pub invariant-loop-progress : goal.invariant-loop-progress
+invariant-loop-progress g l = let T = g.T.Theory in record {
+  problem : SameProblem T.capacity T.takes T.models l.initial.self.state l.self.state;
+  reached : IsReached T.literals T.models T.meets l.progress l.self.marks l.self.state;
+}
+
+abbrev pub decreases-loop-progress : goal.decreases-loop-progress
+decreases-loop-progress g l = work l.progress l.self.state

@@ -1,0 +1,49 @@
+use Rattle.std.proofs.Common.{length, ap, sym, subst, arith}
+use Rattle.std.proofs.lemmas.List.{length-reverse}
+use Rattle.sc_solver.specs.Marks.{ForcesMarked, IsEntailed}
+use Rattle.sc_solver.specs.SearchView.{SearchView, Lawful}
+use Rattle.sc_solver.specs.Trail.{IsTrail}
+use Rattle.sc_solver.proofs.CollectedClauses.{collected_entailed, collected_within}
+use Rattle.sc_solver.proofs.Trails.{reversed_within, length-unset}
+use Rattle.sc_solver.proofs.search.Search.collect.Goals as goal
+
+pub collect-requires-clause-within : goal.collect-requires-clause-within
+collect-requires-clause-within g c =
+    let vars = ap (λ (s : SearchView _ _). s.vars) c.self.view_is in
+    let each = reversed_within _ c.entries.result.now (subst (IsTrail c.self.inside.trail.vars) c.entries.ensures c.self.invariant.state.is_trail) in
+    rw (c.requires.one_each, ← vars) each
+
+pub collect-requires-clause-room : goal.collect-requires-clause-room
+collect-requires-clause-room g c =
+    let vars = ap (λ (s : SearchView _ _). s.vars) c.self.view_is in
+    let entries = ap (λ (s : SearchView _ _). s.entries) c.self.view_is in
+    let short = length-unset _ _ c.args.literal c.self.invariant.state.is_trail (rw vars c.requires.within) (rw entries c.requires.unset) in
+    omega (arith, short, ap length c.entries.ensures, length-reverse c.entries.result.now, c.requires.room, vars)
+
+pub returns-clause-entailed : goal.returns-clause-entailed
+returns-clause-entailed g c =
+    let T = g.T.Theory in
+    let s : SearchView _ _ = record {
+      vars = c.self.inside.trail.vars;
+      clauses = c.self.inside.clauses.list;
+      atoms = c.self.inside.atoms.items;
+      theory = c.self.inside.theory;
+      entries = c.self.inside.trail.entries;
+    } in
+    let forced = subst (λ (v : SearchView _ _). ForcesMarked (Lawful T.models T.meets v) c.args.marks.now v.entries c.args.literal) (sym c.self.view_is) c.requires.forced in
+    subst (λ (v : SearchView _ _). IsEntailed (Lawful T.models T.meets v) c.collect.new.clause.items) c.self.view_is
+    (collected_entailed (Lawful T.models T.meets s) c.args.marks.now c.entries.result.now c.args.literal c.collect.new.clause.items
+    (rw (← c.entries.ensures) forced) c.collect.ensures.first c.collect.ensures.others)
+
+pub returns-clause-within : goal.returns-clause-within
+returns-clause-within g c =
+    let vars = ap (λ (s : SearchView _ _). s.vars) c.self.view_is in
+    let each = reversed_within _ c.entries.result.now (subst (IsTrail c.self.inside.trail.vars) c.entries.ensures c.self.invariant.state.is_trail) in
+    rw (← vars) (collected_within c.self.inside.trail.vars c.entries.result.now c.args.literal c.collect.new.clause.items (rw vars c.requires.within) each c.collect.ensures.only)
+
+pub returns-clause-few : goal.returns-clause-few
+returns-clause-few g c =
+    let vars = ap (λ (s : SearchView _ _). s.vars) c.self.view_is in
+    let entries = ap (λ (s : SearchView _ _). s.entries) c.self.view_is in
+    let short = length-unset _ _ c.args.literal c.self.invariant.state.is_trail (rw vars c.requires.within) (rw entries c.requires.unset) in
+    omega (arith, short, ap length c.entries.ensures, length-reverse c.entries.result.now, c.collect.ensures.few, vars)

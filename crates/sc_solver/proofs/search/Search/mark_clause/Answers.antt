@@ -1,0 +1,27 @@
+use Rattle.std.proofs.Common.{subst}
+use Rattle.std.specs.Bool.{OnTrue}
+use Rattle.std.proofs.lemmas.Option.{slice_get_within, get_or_from_slice_get}
+use Rattle.sc_solver.specs.Marks.{IsBackedMarked}
+use Rattle.sc_solver.specs.SearchView.{SearchView, Lawful}
+use Rattle.sc_solver.proofs.Entailment.{OnTrue-weaker}
+use Rattle.sc_solver.proofs.MarkedTrails.{IsBackedMarked-clause}
+use Rattle.sc_solver.proofs.Scans.{given_entailed}
+use Rattle.sc_solver.proofs.search.Search.mark_clause.Goals as goal
+
+pub returns-then-index-len-clause-shown : goal.returns-then-index-len-clause-shown
+returns-then-index-len-clause-shown g c =
+    let T = g.T.Theory in
+    let clause = c.clause.result.now in
+    let clauses = c.self.inside.clauses.list in
+    let s : SearchView _ _ = record {
+      vars = c.self.inside.trail.vars;
+      clauses = c.self.inside.clauses.list;
+      atoms = c.self.inside.atoms.items;
+      theory = c.self.inside.theory;
+      entries = c.self.inside.trail.entries;
+    } in
+    subst (λ (v : SearchView _ _). OnTrue c.mark_clause.result (IsBackedMarked (Lawful T.models T.meets v) c.mark_clause.new.marks v.entries c.args.literal)) c.self.view_is
+    (OnTrue-weaker c.mark_clause.result
+    (λ marked. IsBackedMarked-clause (Lawful T.models T.meets s) c.mark_clause.new.marks s.entries c.args.literal clause
+    (given_entailed T.models T.meets s c.args.index clause (slice_get_within clauses c.args.index clause c.clause.ensures) (get_or_from_slice_get clauses c.args.index clause clause c.clause.ensures)) marked)
+    c.mark_clause.ensures.marked)

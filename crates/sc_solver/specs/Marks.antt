@@ -1,0 +1,52 @@
+-- What follows from a part of a trail alone: the literals whose variables are marked.
+-- Marks are a list with one truth value for each variable.
+use Rattle.std.specs.Prelude.{◌≡◌, ◌⊎◌, ℕ, Bool, false, List, [], ◌∷◌, Option, Some, None, IsTrue, All}
+use Rattle.std.specs.Bool.{OnFalse}
+use Rattle.sc_solver.specs.declared.literal.PLit.{PLit}
+use Rattle.sc_solver.specs.declared.trail.Entry.{Entry}
+use Rattle.sc_solver.specs.Assignment.{value_at, literal_value, meets_clause}
+use Rattle.sc_solver.specs.Trail.{value_in, Forces, IsRefuted}
+use Rattle.sc_solver.specs.Units.{IsFalseIn}
+
+-- an assignment has each marked literal of the trail
+abbrev pub AgreesMarked : List Bool → List Bool → List Entry → Type 0
+AgreesMarked assignment marks es = (var : ℕ) (value : Bool) → value_in es var ≡ Some value → IsTrue (value_at marks var) → value_at assignment var ≡ value
+
+-- a literal is true in each lawful assignment that has the marked ones
+abbrev pub ForcesMarked : (List Bool → Type 0) → List Bool → List Entry → PLit → Type 0
+ForcesMarked Lawful marks es l = (assignment : List Bool) → Lawful assignment → AgreesMarked assignment marks es → IsTrue (literal_value assignment l)
+
+-- no lawful assignment has the marked ones
+abbrev pub IsRefutedMarked : (List Bool → Type 0) → List Bool → List Entry → Type 0
+IsRefutedMarked Lawful marks es = (assignment : List Bool) → Lawful assignment → ¬ AgreesMarked assignment marks es
+
+-- what is known of a literal, or of none: the trail forces it, or is refuted
+abbrev pub IsBacked : (List Bool → Type 0) → List Entry → Option PLit → Type 0
+IsBacked Lawful es None = IsRefuted Lawful es
+IsBacked Lawful es (Some l) = Forces Lawful es l
+
+-- the same by the marked ones alone
+abbrev pub IsBackedMarked : (List Bool → Type 0) → List Bool → List Entry → Option PLit → Type 0
+IsBackedMarked Lawful marks es None = IsRefutedMarked Lawful marks es
+IsBackedMarked Lawful marks es (Some l) = ForcesMarked Lawful marks es l
+
+-- no mark is taken away
+abbrev pub HasMarks : List Bool → List Bool → Type 0
+HasMarks more fewer = (var : ℕ) → IsTrue (value_at fewer var) → IsTrue (value_at more var)
+
+-- there is a decision, and nothing is marked from the latest one on
+abbrev pub IsFreeLevel : List Bool → List Entry → Type 0
+IsFreeLevel marks [] = ⊥
+IsFreeLevel marks (e ∷ es) = (value_at marks e.literal.var ≡ false) × OnFalse e.decided (IsFreeLevel marks es)
+
+-- each lawful assignment meets the clause
+abbrev pub IsEntailed : (List Bool → Type 0) → List PLit → Type 0
+IsEntailed Lawful clause = (assignment : List Bool) → Lawful assignment → IsTrue (meets_clause assignment clause)
+
+-- each literal of the clause is false and marked, but for the one that is left out
+abbrev pub IsMarkedBut : List Bool → List Entry → Option PLit → List PLit → Type 0
+IsMarkedBut marks es but clause = All (λ x. (but ≡ Some x) ⊎ (IsFalseIn es x × IsTrue (value_at marks x.var))) clause
+
+-- what some marks force, fewer marks force as well
+abbrev pub IsAsStrong : (List Bool → Type 0) → List Entry → List Bool → List Bool → Type 0
+IsAsStrong Lawful es fewer more = (assignment : List Bool) → Lawful assignment → AgreesMarked assignment fewer es → AgreesMarked assignment more es

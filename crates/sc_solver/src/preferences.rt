@@ -1,0 +1,144 @@
+ghost use Rattle.std.specs.Prelude.{◌≡◌, ◌≢◌, ◌↔◌, ℕ, ◌<◌, ◌≤◌, None, IsTrue, IfOk, IfSome, MatchOption, false, length, replicate, slice_index, slice_index_or, slice_set};
+ghost use Rattle.sc_solver.specs.Clauses.{IsWithin};
+ghost use Rattle.sc_solver.specs.Preferences.{raised, raised_all, scaled_down, aged};
+ghost use Rattle.sc_solver.specs.Trail.{value_in};
+
+use crate::literal::PLit;
+use crate::trail::Trail;
+use std::alloc::{AllocError, Global};
+use std::marker::Model;
+
+/// By how much a score is raised at first.
+const FIRST_STEP: u64 = 1024;
+
+/// Beyond this step the step and the scores are scaled down.
+const LARGEST_STEP: u64 = 1 << 48;
+
+/// What the step and the scores are divided by then.
+const SCALE: u64 = 1 << 32;
+
+/// Which variable is decided next, and how: the one that had most part in the latest conflicts, to
+/// the value that it had last (Moskewicz et al., "Chaff", 2001; Pipatsrisawat and Darwiche, 2007).
+/// Contracts see the score of each variable, from 0 to `u64::MAX`, the value that it had last, and the
+/// step by which a score is raised.
+#[derive(Drop)]
+pub struct Preferences {
+    scores: Vec<u64>,
+    values: Vec<bool>,
+    step: u64,
+}
+
+impl Model for Preferences {
+    ghost use Rattle.std.specs.Prelude.{◌≡◌, ◌<◌, ◌^◌, vec_len};
+    ghost use Rattle.sc_solver.specs.Preferences.{PreferencesView};
+
+    ghost Value = { PreferencesView };
+
+    ghost view = { λ p. record { scores = p.scores.items; values = p.values.items; step = p.step } };
+
+    ghost invariant = { λ p. (vec_len p.values ≡ vec_len p.scores) × (vec_len p.scores < 2 ^ 32) };
+}
+
+impl Preferences {
+    /// No preference among `vars` variables, to be false.
+    pub fn new(alloc: Global, vars: u32) -> Result<Preferences, AllocError>
+        ensures { IfOk result (λ p. p ≡ record {
+          scores = replicate vars 0;
+          values = replicate vars false;
+          step = FIRST_STEP;
+        }) }
+    {
+        let scores = vec![in alloc; 0; vars as usize]?;
+        let values = vec![in alloc; false; vars as usize]?;
+        Ok(Preferences {
+            scores,
+            values,
+            step: FIRST_STEP,
+        })
+    }
+
+    /// Notes the value that a variable has.
+    pub fn note(&mut self, literal: PLit)
+        requires { literal.var < length self.old.scores }
+        ensures { self.new
+            ≡ record self.old { values = slice_set self.old.values literal.var literal.plus } }
+    {
+        self.values[literal.var as usize] = literal.plus;
+    }
+
+    /// Raises the score of a variable that had part in a conflict.
+    pub fn raise(&mut self, var: u32)
+        requires { var < length self.old.scores }
+        ensures { self.new ≡ raised self.old var }
+    {
+        let score = self.scores[var as usize];
+        self.scores[var as usize] = score.saturating_add(self.step);
+    }
+
+    /// Raises the scores of the variables of a clause.
+    pub fn raise_all(&mut self, clause: &[PLit])
+        requires { IsWithin (length self.old.scores) clause.now }
+        ensures { self.new ≡ raised_all self.old clause.now }
+    {
+        for literal in clause {
+            self.raise(literal.var);
+        }
+    }
+
+    /// Lets earlier conflicts count less against later ones.
+    pub fn age(&mut self)
+        ensures { self.new ≡ aged self.old }
+    {
+        self.step = self.step.saturating_add(self.step / 16);
+        if self.step > LARGEST_STEP {
+            scale_down(self.scores.as_mut_slice());
+            self.step /= SCALE;
+        }
+    }
+
+    /// The literal of a variable that is not set, where there is one: of those with the largest
+    /// score, with the value that it had last.
+    pub fn choose(&self, trail: &Trail) -> Option<PLit>
+        requires { trail.now.vars ≡ length self.now.scores }
+        ensures unset { MatchOption result
+            ((var : ℕ) → var < trail.now.vars → value_in trail.now.entries var ≢ None)
+            (λ l. (l.var < trail.now.vars) × (value_in trail.now.entries l.var ≡ None)) }
+        ensures largest { IfSome result (λ l. (var : ℕ) → var < trail.now.vars
+            → value_in trail.now.entries var ≡ None
+            → slice_index self.now.scores var ≤ slice_index self.now.scores l.var) }
+        ensures last_value { IfSome result (λ l. l.plus ≡ slice_index_or self.now.values l.var false) }
+    {
+        let mut best: Option<u32> = None;
+        for index in 0..self.scores.len() {
+            let var = index as u32;
+            if trail.value(var).is_none() && self.is_preferred(var, best) {
+                best = Some(var);
+            }
+        }
+        let var = best?;
+        let plus = self.values[var as usize];
+        Some(PLit { var, plus })
+    }
+
+    /// Whether a variable has a larger score than another, or there is no other.
+    fn is_preferred(&self, var: u32, best: Option<u32>) -> bool
+        requires within { var < length self.now.scores }
+        requires best { IfSome best (λ other. other < length self.now.scores) }
+        ensures { IsTrue result
+            ↔ IfSome best (λ other. slice_index self.now.scores other < slice_index self.now.scores var) }
+    {
+        match best {
+            None => true,
+            Some(other) => self.scores[other as usize] < self.scores[var as usize],
+        }
+    }
+}
+
+/// Divides each score by the scale.
+fn scale_down(scores: &mut [u64])
+    ensures { scores.new ≡ scaled_down scores.old }
+{
+    for score in scores.iter_mut() {
+        *score /= SCALE;
+    }
+}
