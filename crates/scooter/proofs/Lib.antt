@@ -1,3 +1,4 @@
 pub mod Joined
 pub mod Statuses
 pub mod Trees
+pub mod WordsGiven

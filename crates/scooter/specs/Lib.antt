@@ -1,4 +1,5 @@
 pub mod Answer
+pub mod Arguments
 pub mod Loads
 pub mod Reply
 pub mod Report

@@ -4,6 +4,7 @@
 //! |---|---|
 //! | `run` | `run`, the program as one call, with its statuses |
 //! | `laws` | what holds of all answers |
+//! | `arguments` | the words that the program's arguments are |
 //! | `words` | the words of the command line |
 //! | `files` | the files that the words name, as trees |
 //! | `reply` | `Reply`, what is printed and its status |
@@ -12,6 +13,7 @@
 //! | `stop` | `Stop`, why there is no answer |
 #![tactic(auto)]
 
+mod arguments;
 mod files;
 mod laws;
 mod pieces;
@@ -24,8 +26,8 @@ mod tests;
 mod witness;
 mod words;
 
+use crate::arguments::{one_empty_word, words_of};
 use crate::run::{Status, run};
-use crate::stop::Stop;
 use sc_ast::Txt;
 use sc_flow::{CurrentFolder, DirShelf, StdSink};
 use std::alloc::{AllocError, Global};
@@ -34,35 +36,22 @@ use std::process::ExitCode;
 use std::rt::Env;
 use std::{env, io};
 
-/// One empty word, which is no command.
-fn no_command(alloc: Global) -> Result<Vec<Txt>, Stop> {
-    let mut words = Vec::new(alloc);
-    if let Some(word) = Txt::make(Vec::new(alloc)) {
-        words.push(word).map_err(AllocError::from)?;
-    }
-    Ok(words)
-}
-
-/// The words after the program's name, or one empty word where one of them is no text.
-fn words_of(rt: &(impl Env + AllocGlobal)) -> Result<Vec<Txt>, Stop> {
+/// The words that `words_of` makes of the arguments after the program's name, as the environment
+/// gives them.
+///
+/// Where an argument is not UTF-8 the environment gives none, and there is one empty word, as where
+/// `words_of` meets an argument that is no text.
+fn words_given(rt: &(impl Env + AllocGlobal)) -> Result<Vec<Txt>, AllocError> {
     let alloc = rt.alloc();
-    let args = match env::args(rt) {
-        Ok(args) => args,
-        Err(e) if e.kind() == ErrorKind::OutOfMemory => return Err(Stop::OutOfMemory),
-        Err(_) => return no_command(alloc),
-    };
-    let mut words = Vec::new(alloc);
-    for arg in args.skip(1) {
-        let Some(word) = Txt::make(arg.into_bytes()) else {
-            return no_command(alloc);
-        };
-        words.push(word).map_err(AllocError::from)?;
+    match env::args(rt) {
+        Ok(arguments) => words_of(alloc, arguments.skip(1).collect(alloc)?),
+        Err(e) if e.kind() == ErrorKind::OutOfMemory => Err(AllocError),
+        Err(_) => one_empty_word(alloc),
     }
-    Ok(words)
 }
 
 fn main(rt: HostRuntime) -> ExitCode {
-    let Ok(words) = words_of(&rt) else {
+    let Ok(words) = words_given(&rt) else {
         return ExitCode::from(13);
     };
     let mut out = StdSink::new(io::writer(&rt));

@@ -6,8 +6,10 @@ use sc_flow::{MemFile, MemShelf, MemSink};
 use std::alloc::{AllocError, Global};
 use std::test::Fail;
 
+mod given;
 mod largest;
 mod rows;
+mod surely;
 
 /// A file in memory: its name and its text.
 #[derive(Clone, Copy)]
