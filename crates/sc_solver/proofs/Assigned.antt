@@ -1,7 +1,7 @@
 -- The assignment of a trail on which each variable is set.
 use Rattle.std.proofs.Common.{◌≡◌, ◌≢◌, ℕ, ◌<◌, Bool, true, false, cond, List, [], ◌∷◌, length, get_or, Option, Some, None, inl, inr, refl, sym, ap, ◌∙◌, arith, zero-add}
 use Rattle.std.specs.Bool.{IsTrue}
-use Rattle.std.specs.List.{All, Contains}
+use Rattle.std.specs.List.{All, Any, Contains}
 use Rattle.std.specs.Option.{option_map, unwrap_or, IfSome}
 use Rattle.std.proofs.lemmas.Bool.{cases_eq, cases_Bool}
 use Rattle.std.proofs.lemmas.List.Folds.{list_any-from_Any}
@@ -10,11 +10,10 @@ use Rattle.sc_theory.proofs.Models.{HasModel-among}
 use Rattle.sc_theory.specs.Models.{HasModel}
 use Rattle.sc_solver.specs.declared.literal.PLit.{PLit}
 use Rattle.sc_solver.specs.declared.trail.Entry.{Entry}
-use Rattle.sc_solver.specs.declared.units.ClauseState.TheVariants.{Open}
 use Rattle.sc_solver.specs.Assignment.{value_at, signed, literal_value, meets_clause, theory_literals, IsLawful, SameLiterals}
 use Rattle.sc_solver.specs.Clauses.{IsWithin}
 use Rattle.sc_solver.specs.Trail.{value_in, Agrees, IsTrail, trail_literals, assignment_of}
-use Rattle.sc_solver.specs.Units.{IsFalseIn, IsStateOf}
+use Rattle.sc_solver.specs.Units.{IsFalseIn, IsOpen}
 use Rattle.sc_solver.proofs.Trails.{value_in-here, value_in-other}
 use Rattle.sc_solver.proofs.Entailment.{true_from_value}
 use Rattle.sc_solver.proofs.TheoryLists.{All-theory_literals, trail_literals-has, trail_literals-among}
@@ -63,7 +62,7 @@ module _ (vars : ℕ) (es : List Entry) (set : (v : ℕ) → v < vars → value_
       ]
 
   -- a clause with such a literal is met
-  open_is_met : (clause : List PLit) → IsWithin vars clause → IsStateOf es clause Open → IsTrue (meets_clause (assignment_of vars es) clause)
+  open_is_met : (clause : List PLit) → IsWithin vars clause → Any (λ l. ¬ IsFalseIn es l) clause → IsTrue (meets_clause (assignment_of vars es) clause)
   open_is_met clause within (k, l, h, is, f) =
       let below : l.var < vars = rw is at (within k l h) in
       list_any-from_Any (literal_value (assignment_of vars es)) clause (k, l, h, is, open_is_true l below f)
@@ -80,10 +79,10 @@ module _ (vars : ℕ) (es : List Entry) (set : (v : ℕ) → v < vars → value_
           rw (value_at-assignment_of vars es v value.0 below value.1) (trail_literals-has atoms es v value.0 pair value.1 e)
 
   -- where no clause is in conflict and no unit, the assignment is lawful
-  pub assigned_is_lawful : {M L : Type 0} (models : M → Bool) (meets : M → L → Bool) (clauses : List (List PLit)) (atoms : List (Option (L × L))) → All (IsWithin vars) clauses → All (λ clause. IsStateOf es clause Open) clauses → HasModel models meets (trail_literals atoms es) → IsLawful models meets vars clauses atoms (assignment_of vars es)
+  pub assigned_is_lawful : {M L : Type 0} (models : M → Bool) (meets : M → L → Bool) (clauses : List (List PLit)) (atoms : List (Option (L × L))) → All (IsWithin vars) clauses → All (IsOpen es) clauses → HasModel models meets (trail_literals atoms es) → IsLawful models meets vars clauses atoms (assignment_of vars es)
   assigned_is_lawful models meets clauses atoms within found h = record {
     one_each = length-assignment_of vars es;
-    meets_each = λ k d l. open_is_met (get_or clauses k d) (within k d l) (found k d l);
+    meets_each = λ k d l. open_is_met (get_or clauses k d) (within k d l) (found k d l).not_false;
     has_model = HasModel-among models meets (trail_literals atoms es) (theory_literals (assignment_of vars es) atoms) (assigned_among atoms) h;
   }
 

@@ -1,15 +1,16 @@
 -- A clause of a literal and of the opposites of the marked ones that force it.
-use Rattle.std.proofs.Common.{◌≡◌, ◌⊎◌, ℕ, ◌+◌, ◌<◌, Bool, true, false, not, List, [], ◌∷◌, ◌++◌, length, get_or, take, reverse, IsTrue, inl, inr, sym, ap, subst, ◌∙◌, arith}
-use Rattle.std.specs.List.{All, Any, Contains}
-use Rattle.std.proofs.lemmas.Bool.{cases_eq, cases_Bool, both_ways}
-use Rattle.std.proofs.lemmas.List.{reverse-reverse, get_or_default}
-use Rattle.std.proofs.lemmas.List.Elements.{All-head, All-tail, All-more, All-push, All-weaker, Contains-append_left, Contains-push}
+use Rattle.std.proofs.Common.{◌≡◌, ℕ, ◌+◌, ◌<◌, ◌≤◌, Bool, true, false, not, List, [], ◌∷◌, ◌++◌, length, map, filter, get_or, take, reverse, IsTrue, inl, inr, refl, sym, ap, ◌∙◌, arith}
+use Rattle.std.specs.List.{All, Contains}
+use Rattle.std.proofs.lemmas.Bool.{cases_eq, cases_Bool, both_ways, cond-true, cond-false}
+use Rattle.std.proofs.lemmas.List.{append-nil, length-map, map-append, reverse-reverse}
+use Rattle.std.proofs.lemmas.List.Elements.{All-nil, All-cons, All-head, All-tail, All-filter, All-map, All-weaker, Contains-append_right, filter_more}
 use Rattle.std.proofs.lemmas.List.Folds.{list_any-from_Any}
+use Rattle.std.proofs.lemmas.List.Sums.{length-filter, count_by-le-length}
 use Rattle.sc_solver.specs.declared.literal.PLit.{PLit}
 use Rattle.sc_solver.specs.declared.trail.Entry.{Entry}
 use Rattle.sc_solver.specs.Assignment.{value_at, literal_value, meets_clause, negated}
 use Rattle.sc_solver.specs.Clauses.{IsWithin}
-use Rattle.sc_solver.specs.Marks.{AgreesMarked, ForcesMarked, IsEntailed}
+use Rattle.sc_solver.specs.Marks.{AgreesMarked, ForcesMarked, IsEntailed, collected}
 use Rattle.sc_solver.proofs.Entailment.{value_from_true, literal_value-negated, same_some}
 use Rattle.sc_solver.proofs.Trails.{value_in-here, value_in-other, All-reversed}
 
@@ -37,39 +38,80 @@ unmet_agrees a marks clause (x ∷ es) unmet h v b is m = elim (cases_eq x.liter
 All-reverse : {X : Type 0} (P : X → Type 0) (xs : List X) → All P xs → All P (reverse xs)
 All-reverse P xs h = All-reversed P (reverse xs) (rw (reverse-reverse xs) h)
 
--- such a clause follows
-pub collected_entailed : (Lawful : List Bool → Type 0) (marks : List Bool) (entries : List Entry) (l : PLit) (clause : List PLit) → ForcesMarked Lawful marks (reverse entries) l → Contains clause l → All (λ e. IsTrue (value_at marks e.literal.var) → Contains clause (negated e.literal)) entries → IsEntailed Lawful clause
-collected_entailed Lawful marks entries l clause forced first others a lawful = elim (cases_Bool (meets_clause a clause)) [
-  | inl met ↦ met
-  | inr unmet ↦
-      contained_is_met a clause l first
-      (forced a lawful (unmet_agrees a marks clause (reverse entries) unmet (All-reverse (λ e. IsTrue (value_at marks e.literal.var) → Contains clause (negated e.literal)) entries others)))
+-- the opposites of the marked literals
+opposites : List Bool → List Entry → List PLit
+opposites marks es = map (λ (e : Entry). negated e.literal) (filter (λ (e : Entry). value_at marks e.literal.var) es)
+
+opposites-marked : (marks : List Bool) (e : Entry) (es : List Entry) → IsTrue (value_at marks e.literal.var) → opposites marks (e ∷ es) ≡ negated e.literal ∷ opposites marks es
+unfolding opposites
+opposites-marked marks e es m = ap (map (λ (x : Entry). negated x.literal)) (cond-true (value_at marks e.literal.var) (e ∷ filter (λ (x : Entry). value_at marks x.literal.var) es) (filter (λ (x : Entry). value_at marks x.literal.var) es) m)
+
+opposites-unmarked : (marks : List Bool) (e : Entry) (es : List Entry) → value_at marks e.literal.var ≡ false → opposites marks (e ∷ es) ≡ opposites marks es
+unfolding opposites
+opposites-unmarked marks e es m = ap (map (λ (x : Entry). negated x.literal)) (cond-false (value_at marks e.literal.var) (e ∷ filter (λ (x : Entry). value_at marks x.literal.var) es) (filter (λ (x : Entry). value_at marks x.literal.var) es) m)
+
+Contains-behind : {X : Type 0} (y : X) (xs : List X) (x : X) → Contains xs x → Contains (y ∷ xs) x
+Contains-behind y xs x there = Contains-append_right (y ∷ []) xs x there
+
+-- they are among them
+opposites-there : (marks : List Bool) (es : List Entry) → All (λ e. IsTrue (value_at marks e.literal.var) → Contains (opposites marks es) (negated e.literal)) es
+opposites-there marks [] = All-nil (λ e. IsTrue (value_at marks e.literal.var) → Contains (opposites marks []) (negated e.literal))
+opposites-there marks (x ∷ es) = elim (cases_Bool (value_at marks x.literal.var)) [
+  | inl m ↦
+      rw (opposites-marked marks x es m)
+      (All-cons (λ e. IsTrue (value_at marks e.literal.var) → Contains (negated x.literal ∷ opposites marks es) (negated e.literal)) x es
+      (λ _. (0, omega arith, refl))
+      (All-weaker (λ e. IsTrue (value_at marks e.literal.var) → Contains (opposites marks es) (negated e.literal)) (λ e. IsTrue (value_at marks e.literal.var) → Contains (negated x.literal ∷ opposites marks es) (negated e.literal))
+      (λ e has n. Contains-behind (negated x.literal) (opposites marks es) (negated e.literal) (has n)) es (opposites-there marks es)))
+  | inr m ↦
+      rw (opposites-unmarked marks x es m)
+      (All-cons (λ e. IsTrue (value_at marks e.literal.var) → Contains (opposites marks es) (negated e.literal)) x es
+      (λ n. absurd (both_ways (value_at marks x.literal.var) m n))
+      (opposites-there marks es))
 ]
 
-pub collected_within : (vars : ℕ) (entries : List Entry) (l : PLit) (clause : List PLit) → l.var < vars → All (λ (e : Entry). e.literal.var < vars) entries → All (λ x. (x ≡ l) ⊎ Any (λ e. x ≡ negated e.literal) entries) clause → IsWithin vars clause
-collected_within vars entries l clause within each only =
-    All-weaker (λ x. (x ≡ l) ⊎ Any (λ e. x ≡ negated e.literal) entries) (λ (x : PLit). x.var < vars) below clause only
-  where
-    below : (x : PLit) → (x ≡ l) ⊎ Any (λ e. x ≡ negated e.literal) entries → x.var < vars
-    below x (inl e) = omega (arith, within, ap (λ (y : PLit). y.var) e)
-    below x (inr (k, e, h, is, same)) =
-        let at_k : e.literal.var < vars = rw is at (each k e h) in
-        omega (arith, at_k, ap (λ (y : PLit). y.var) same)
+-- such a clause follows
+pub collected_entailed : (Lawful : List Bool → Type 0) (marks : List Bool) (entries : List Entry) (l : PLit) → ForcesMarked Lawful marks (reverse entries) l → IsEntailed Lawful (collected l marks entries)
+unfolding opposites
+collected_entailed Lawful marks entries l forced a lawful =
+    let clause = collected l marks entries in
+    let others = All-weaker (λ e. IsTrue (value_at marks e.literal.var) → Contains (opposites marks entries) (negated e.literal)) (λ e. IsTrue (value_at marks e.literal.var) → Contains clause (negated e.literal))
+    (λ e has n. Contains-behind l (opposites marks entries) (negated e.literal) (has n)) entries (opposites-there marks entries) in
+    elim (cases_Bool (meets_clause a clause)) [
+      | inl met ↦ met
+      | inr unmet ↦
+          contained_is_met a clause l (0, omega arith, refl)
+          (forced a lawful (unmet_agrees a marks clause (reverse entries) unmet (All-reverse (λ e. IsTrue (value_at marks e.literal.var) → Contains clause (negated e.literal)) entries others)))
+    ]
 
--- steps of a loop over the trail: a marked literal whose opposite is put behind, or one that is not marked
-pub others_pushed : (marks : List Bool) (entries : List Entry) (i : ℕ) (d : Entry) (clause : List PLit) (x : PLit) → i < length entries → x ≡ negated (get_or entries i d).literal → All (λ e. IsTrue (value_at marks e.literal.var) → Contains clause (negated e.literal)) (take i entries) → All (λ e. IsTrue (value_at marks e.literal.var) → Contains (clause ++ x ∷ []) (negated e.literal)) (take (i + 1) entries)
-others_pushed marks entries i d clause x l is h =
-    All-more (λ e. IsTrue (value_at marks e.literal.var) → Contains (clause ++ x ∷ []) (negated e.literal)) entries i d l
-    (All-weaker (λ e. IsTrue (value_at marks e.literal.var) → Contains clause (negated e.literal)) (λ e. IsTrue (value_at marks e.literal.var) → Contains (clause ++ x ∷ []) (negated e.literal))
-    (λ e has m. Contains-append_left clause (x ∷ []) (negated e.literal) (has m)) (take i entries) h)
-    (λ m. subst (Contains (clause ++ x ∷ [])) is (Contains-push clause x))
+pub collected_within : (vars : ℕ) (marks : List Bool) (entries : List Entry) (l : PLit) → l.var < vars → All (λ (e : Entry). e.literal.var < vars) entries → IsWithin vars (collected l marks entries)
+collected_within vars marks entries l within each =
+    let p = λ (e : Entry). value_at marks e.literal.var in
+    let kept : All (λ (e : Entry). e.literal.var < vars) (filter p entries) = All-filter p (λ (e : Entry). e.literal.var < vars) entries each in
+    All-cons (λ (x : PLit). x.var < vars) l (map (λ (e : Entry). negated e.literal) (filter p entries)) within
+    (All-map (λ (x : PLit). x.var < vars) (λ (e : Entry). negated e.literal) (filter p entries) kept)
 
-pub others_passed : (marks : List Bool) (entries : List Entry) (i : ℕ) (d : Entry) (clause : List PLit) → i < length entries → value_at marks (get_or entries i d).literal.var ≡ false → All (λ e. IsTrue (value_at marks e.literal.var) → Contains clause (negated e.literal)) (take i entries) → All (λ e. IsTrue (value_at marks e.literal.var) → Contains clause (negated e.literal)) (take (i + 1) entries)
-others_passed marks entries i d clause l unmarked h =
-    All-more (λ e. IsTrue (value_at marks e.literal.var) → Contains clause (negated e.literal)) entries i d l h
-    (λ m. absurd (both_ways (value_at marks (get_or entries i d).literal.var) unmarked m))
+pub length-collected : (marks : List Bool) (entries : List Entry) (l : PLit) → length (collected l marks entries) ≤ length entries + 1
+length-collected marks entries l =
+    let p = λ (e : Entry). value_at marks e.literal.var in
+    omega (arith, length-map (filter p entries) (λ (e : Entry). negated e.literal), length-filter p entries, count_by-le-length p entries)
 
-pub only_pushed : (entries : List Entry) (i : ℕ) (d : Entry) (l : PLit) (clause : List PLit) (x : PLit) → i < length entries → x ≡ negated (get_or entries i d).literal → All (λ y. (y ≡ l) ⊎ Any (λ e. y ≡ negated e.literal) entries) clause → All (λ y. (y ≡ l) ⊎ Any (λ e. y ≡ negated e.literal) entries) (clause ++ x ∷ [])
-only_pushed entries i d l clause x h is only =
-    All-push (λ y. (y ≡ l) ⊎ Any (λ e. y ≡ negated e.literal) entries) clause x only
-    (inr (i, get_or entries i d, h, get_or_default entries i (get_or entries i d) d h, is))
+-- a step of a loop over the trail: a marked literal whose opposite is put behind, or one that is not marked
+pub collected_pushed : (marks : List Bool) (entries : List Entry) (i : ℕ) (d : Entry) (l : PLit) (clause : List PLit) (x : PLit) → i < length entries → IsTrue (value_at marks (get_or entries i d).literal.var) → x ≡ negated (get_or entries i d).literal → clause ≡ collected l marks (take i entries) → clause ++ x ∷ [] ≡ collected l marks (take (i + 1) entries)
+collected_pushed marks entries i d l clause x h m is so_far =
+    let p = λ (e : Entry). value_at marks e.literal.var in
+    let opposite = λ (e : Entry). negated e.literal in
+    let e = get_or entries i d in
+    let more : filter p (take (i + 1) entries) ≡ filter p (take i entries) ++ e ∷ [] =
+    filter_more p entries i d h ∙ ap (λ t. filter p (take i entries) ++ t) (cond-true (p e) (e ∷ []) [] m) in
+    let all : map opposite (filter p (take (i + 1) entries)) ≡ map opposite (filter p (take i entries)) ++ negated e.literal ∷ [] =
+    ap (map opposite) more ∙ map-append opposite (filter p (take i entries)) (e ∷ []) in
+    rw (so_far, is) (sym (ap (λ t. l ∷ t) all))
+
+pub collected_passed : (marks : List Bool) (entries : List Entry) (i : ℕ) (d : Entry) (l : PLit) (clause : List PLit) → i < length entries → value_at marks (get_or entries i d).literal.var ≡ false → clause ≡ collected l marks (take i entries) → clause ≡ collected l marks (take (i + 1) entries)
+collected_passed marks entries i d l clause h m so_far =
+    let p = λ (e : Entry). value_at marks e.literal.var in
+    let e = get_or entries i d in
+    let same : filter p (take (i + 1) entries) ≡ filter p (take i entries) =
+    filter_more p entries i d h ∙ ap (λ t. filter p (take i entries) ++ t) (cond-false (p e) (e ∷ []) [] m) ∙ append-nil (filter p (take i entries)) in
+    so_far ∙ sym (ap (λ t. l ∷ map (λ (x : Entry). negated x.literal) t) same)

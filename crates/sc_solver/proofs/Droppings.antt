@@ -1,9 +1,9 @@
 -- Literals taken back that are not marked, one after another.
-use Rattle.std.proofs.Common.{◌≡◌, ℕ, ◌≤◌, Bool, true, false, List, ◌∷◌, None, inl, inr, sym, ◌∙◌, arith}
-use Rattle.std.proofs.lemmas.Bool.{cases_eq, OnFalse_at}
+use Rattle.std.proofs.Common.{◌≡◌, ℕ, ◌≤◌, Bool, true, false, List, [], ◌∷◌, None, inl, inr, sym, ◌∙◌, arith}
+use Rattle.std.proofs.lemmas.Bool.{cases_eq, cases_Bool, cond-true, cond-false, OnFalse_at}
 use Rattle.sc_solver.specs.declared.trail.Entry.{Entry}
 use Rattle.sc_solver.specs.Assignment.{value_at}
-use Rattle.sc_solver.specs.Dropping.{IsDropped, IsLevelDropped}
+use Rattle.sc_solver.specs.Dropping.{IsDropped, IsLevelDropped, before_decision}
 use Rattle.sc_solver.specs.Marks.{IsFreeLevel}
 use Rattle.sc_solver.specs.Trail.{value_in}
 use Rattle.sc_solver.specs.Work.{pending}
@@ -38,22 +38,25 @@ IsDropped-one marks vars e es unmarked = record {
   no_more = pending-below vars e es;
 }
 
--- one more of a level
-pub IsDropped-more : (marks : List Bool) (vars : ℕ) (first second : List Entry) (e : Entry) (es : List Entry) → second ≡ e ∷ es → IsFreeLevel marks second → IsDropped marks vars first second → IsDropped marks vars first es
-IsDropped-more marks vars first second e es is free h =
-    let here : IsFreeLevel marks (e ∷ es) = rw is at free in
-    IsDropped-trans marks vars first (e ∷ es) es (rw is at h) (IsDropped-one marks vars e es here.0)
+-- a level in which nothing is marked
+pub free_level_dropped : (marks : List Bool) (vars : ℕ) (es : List Entry) → IsFreeLevel marks es → IsLevelDropped marks vars es (before_decision es)
+free_level_dropped marks vars [] free = absurd free
+free_level_dropped marks vars (e ∷ es) free = elim (cases_Bool e.decided) [
+  | inl decided ↦
+      rw (decided_gone decided) (record {
+        dropped = IsDropped-one marks vars e es free.0;
+        less = omega (arith, pending-decided vars e es decided);
+      })
+  | inr implied ↦
+      let below = free_level_dropped marks vars es (OnFalse_at implied free.1) in
+      rw (implied_gone implied) (record {
+        dropped = IsDropped-trans marks vars (e ∷ es) es (before_decision es) (IsDropped-one marks vars e es free.0) below.dropped;
+        less = omega (arith, below.less, pending-below vars e es);
+      })
+]
+  where
+    decided_gone : e.decided ≡ true → before_decision (e ∷ es) ≡ es
+    decided_gone h = cond-true e.decided es (before_decision es) h
 
-pub IsFreeLevel-below : (marks : List Bool) (second : List Entry) (e : Entry) (es : List Entry) → second ≡ e ∷ es → e.decided ≡ false → IsFreeLevel marks second → IsFreeLevel marks es
-IsFreeLevel-below marks second e es is implied free =
-    let here : IsFreeLevel marks (e ∷ es) = rw is at free in
-    OnFalse_at implied here.1
-
--- its decision
-pub IsLevelDropped-last : (marks : List Bool) (vars : ℕ) (first second : List Entry) (e : Entry) (es : List Entry) → second ≡ e ∷ es → e.decided ≡ true → IsFreeLevel marks second → IsDropped marks vars first second → IsLevelDropped marks vars first es
-IsLevelDropped-last marks vars first second e es is decided free h =
-    let before : IsDropped marks vars first (e ∷ es) = rw is at h in
-    record {
-      dropped = IsDropped-more marks vars first second e es is free h;
-      less = omega (arith, before.no_more, pending-decided vars e es decided);
-    }
+    implied_gone : e.decided ≡ false → before_decision (e ∷ es) ≡ before_decision es
+    implied_gone h = cond-false e.decided es (before_decision es) h

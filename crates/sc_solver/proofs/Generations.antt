@@ -1,11 +1,11 @@
 -- What is left of the clauses that were learned.
-use Rattle.std.proofs.Common.{◌≡◌, List, [], ◌∷◌, ◌++◌, ◌-◌, ℕ, Bool, true, false, cond, leb, Option, Some, None, length, sym, ap, ◌∙◌, arith, inl, inr, refl, append_assoc}
+use Rattle.std.proofs.Common.{◌≡◌, List, [], ◌∷◌, ◌++◌, ◌-◌, ℕ, Bool, true, false, cond, leb, Some, None, length, sym, ap, ◌∙◌, arith, inl, inr, refl, append_assoc}
 use Rattle.std.specs.List.{All, Contains, slice_get}
 use Rattle.std.proofs.lemmas.List.{append-nil, take_at, drop_at, length_push, get_or_push}
 use Rattle.std.proofs.lemmas.List.Elements.{All-push, All-take, All-drop, All-weaker, All-contains_itself, Contains-append_right}
 use Rattle.std.proofs.lemmas.Option.{slice_get_within, slice_get-get_or, get_or_from_slice_get}
 use Rattle.sc_solver.specs.declared.literal.PLit.{PLit}
-use Rattle.sc_solver.specs.Learned.{LearnedView, IsAmong, clause_of}
+use Rattle.sc_solver.specs.Learned.{LearnedView, IsAmong, clause_of, learned_list}
 
 -- a clause behind others that are all from a list
 pub among_pushed : (all earlier later : List (List PLit)) (clause : List PLit) → All (Contains all) (earlier ++ later) → All (IsAmong all clause) (earlier ++ (later ++ clause ∷ []))
@@ -24,11 +24,11 @@ last_pushed earlier later clause = rw (← append_assoc earlier later (clause �
         ∙ ap Some (get_or_push xs clause clause (length (xs ++ clause ∷ []) - 1) (omega (arith, n)))
 
 -- a clause that has a number is there
-pub clause_of-there : (l : LearnedView) (number : ℕ) (clause : List PLit) → Some clause ≡ clause_of l number → Contains l.list clause
+pub clause_of-there : (l : LearnedView) (number : ℕ) (clause : List PLit) → Some clause ≡ clause_of l number → Contains (learned_list l) clause
 clause_of-there l number clause h = go (leb l.forgotten number) h
   where
-    go : (b : Bool) → Some clause ≡ cond b (slice_get l.list (number - l.forgotten)) None → Contains l.list clause
-    go true h = (number - l.forgotten, slice_get_within l.list (number - l.forgotten) clause (sym h), get_or_from_slice_get l.list (number - l.forgotten) clause clause (sym h))
+    go : (b : Bool) → Some clause ≡ cond b (slice_get (learned_list l) (number - l.forgotten)) None → Contains (learned_list l) clause
+    go true h = (number - l.forgotten, slice_get_within (learned_list l) (number - l.forgotten) clause (sym h), get_or_from_slice_get (learned_list l) (number - l.forgotten) clause clause (sym h))
     go false h = cc
 
 -- the later ones alone

@@ -4,7 +4,9 @@ pub mod CollectedClauses
 pub mod Droppings
 pub mod Entailment
 pub mod Generations
+pub mod LearnedScans
 pub mod MarkedTrails
+pub mod MetClauses
 pub mod Parts
 pub mod Places
 pub mod Problems
@@ -13,7 +15,9 @@ pub mod Scans
 pub mod Scores
 pub mod Searches
 pub mod SetMarks
+pub mod Shown
 pub mod TakenBack
 pub mod TheoryLists
+pub mod Thinning
 pub mod Trails
 pub mod WorkLeft

@@ -1,12 +1,13 @@
 -- Two states of one search have the same lawful assignments.
 use Rattle.std.proofs.Common.{◌≡◌, ℕ, Bool, List, refl, sym, ◌∙◌}
-use Rattle.std.proofs.lemmas.List.Elements.{All-weaker}
 use Rattle.sc_solver.specs.declared.literal.PLit.{PLit}
 use Rattle.sc_solver.specs.declared.trail.Entry.{Entry}
 use Rattle.sc_solver.specs.Assignment.{negated}
 use Rattle.sc_solver.specs.Dropping.{IsDropped}
-use Rattle.sc_solver.specs.LearnerView.{IsLearner}
-use Rattle.sc_solver.specs.Marks.{ForcesMarked, IsRefutedMarked, IsEntailed, IsAsStrong, HasMarks}
+use Rattle.sc_solver.specs.declared.reason.Reason.{Reason}
+use Rattle.sc_solver.specs.Learned.{LearnedView}
+use Rattle.sc_solver.specs.LearnerView.{LearnerView}
+use Rattle.sc_solver.specs.Marks.{ForcesMarked, IsRefutedMarked, IsAsStrong, HasMarks}
 use Rattle.sc_solver.specs.SearchView.{SearchView, Lawful, SameProblem}
 use Rattle.sc_solver.specs.Trail.{Forces, IsRefuted}
 use Rattle.sc_solver.proofs.MarkedTrails.{AgreesMarked-fewer, refuted_both_marked}
@@ -62,21 +63,13 @@ module _ {T M L : Type 0} {capacity : T → ℕ} {takes : T → L → Bool} {mod
         refuted_both_marked (Lawful models meets new) more new.entries l forced
         (λ a lawful agrees. opposite a lawful (rw (← kept) (AgreesMarked-fewer a more fewer new.entries has agrees)))
 
-    -- what was learned follows all the same
-    pub IsLearner-along : (learned : List (List PLit)) (width marks reasons scores room : ℕ) → IsLearner models meets old learned width marks reasons scores room → IsLearner models meets new learned width marks reasons scores room
-    IsLearner-along learned width marks reasons scores room h = record {
-      entailed = All-weaker (IsEntailed (Lawful models meets old)) (IsEntailed (Lawful models meets new)) (λ clause entailed a lawful. entailed a (Lawful-before a lawful)) learned h.entailed;
-      within = rw same.vars h.within;
-      wide = h.wide ∙ sym same.vars;
-      mark_each = h.mark_each ∙ sym same.vars;
-      reason_each = h.reason_each ∙ sym same.vars;
-      score_each = h.score_each ∙ sym same.vars;
-      room_for_all = h.room_for_all ∙ sym same.vars;
-    }
-
 -- what is forced lasts as marks that the others force are taken away, and levels in which nothing is marked
 pub forced_thinned : {T M L : Type 0} {capacity : T → ℕ} {takes : T → L → Bool} {models : T → M → Bool} (meets : M → L → Bool) {first second third : SearchView T L} → SameProblem capacity takes models first second → SameProblem capacity takes models second third → (marks thinned : List Bool) (vars : ℕ) (l : PLit)
     → ForcesMarked (Lawful models meets first) marks second.entries l → IsAsStrong (Lawful models meets second) second.entries thinned marks → IsDropped thinned vars second.entries third.entries → ForcesMarked (Lawful models meets third) thinned third.entries l
 forced_thinned meets before after marks thinned vars l forced strong gone a lawful agrees =
     let at_second = Lawful-before meets after a lawful in
     forced a (Lawful-before meets before a at_second) (strong a at_second (gone.agrees a agrees))
+
+-- a state with other names for what was learned and for the reasons
+pub same_parts : {T L : Type 0} (s : LearnerView T L) (learned : LearnedView) (reasons : List Reason) → s.learned ≡ learned → s.reasons ≡ reasons → s ≡ record s { learned = learned; reasons = reasons }
+same_parts s learned reasons same_learned same_reasons = rw (← same_learned, ← same_reasons) refl

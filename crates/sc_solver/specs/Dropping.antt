@@ -1,9 +1,14 @@
 -- What is left of a trail from which literals were taken back that were not marked.
-use Rattle.std.specs.Prelude.{◌≡◌, ℕ, ◌≤◌, Bool, List, None}
+use Rattle.std.specs.Prelude.{◌≡◌, ℕ, ◌≤◌, Bool, List, [], ◌∷◌, None, if◌then◌else◌}
 use Rattle.sc_solver.specs.declared.trail.Entry.{Entry}
 use Rattle.sc_solver.specs.Marks.{AgreesMarked}
 use Rattle.sc_solver.specs.Trail.{value_in}
 use Rattle.sc_solver.specs.Work.{pending, rest}
+
+-- what was set before the latest decision
+abbrev pub before_decision : List Entry → List Entry
+before_decision [] = []
+before_decision (e ∷ es) = if e.decided then es else before_decision es
 
 -- the marked literals are still there, and there is no more work left
 pub record IsDropped (marks : List Bool) (vars : ℕ) (old new : List Entry) : Type 0 where

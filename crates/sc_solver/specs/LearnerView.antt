@@ -1,14 +1,29 @@
 -- What a contract sees of a `Learner`, and what holds of it at each step.
-use Rattle.std.specs.Prelude.{◌≡◌, ℕ, Bool, List, All}
+use Rattle.std.specs.Prelude.{◌≡◌, ◌≢◌, ◌↔◌, ℕ, Bool, false, List, Option, Some, None, All, IsTrue, IsSomeAnd, MatchOption, slice_index_or, slice_set}
+use Rattle.std.specs.Bool.{OnTrue, OnFalse}
+use Rattle.std.specs.List.{slice_get}
 use Rattle.sc_solver.specs.declared.literal.PLit.{PLit}
+use Rattle.sc_solver.specs.declared.trail.Entry.{Entry}
+use Rattle.sc_solver.specs.declared.reason.Reason.{Reason}
+use Rattle.sc_solver.specs.declared.reason.Reason.TheVariants.{Given, Learned, Unknown}
+use Rattle.sc_solver.specs.declared.units.ClauseState.{ClauseState}
+use Rattle.sc_solver.specs.declared.units.ClauseState.TheVariants.{Conflict, UnitLiteral, Open}
+use Rattle.sc_solver.specs.Assignment.{value_at}
 use Rattle.sc_solver.specs.Clauses.{IsWithin}
-use Rattle.sc_solver.specs.Marks.{IsEntailed}
+use Rattle.sc_solver.specs.Learned.{LearnedView, IsSpent, clause_of}
+use Rattle.sc_solver.specs.Marks.{HasMarks, IsEntailed, IsMarkedBut}
+use Rattle.sc_solver.specs.Preferences.{PreferencesView}
 use Rattle.sc_solver.specs.SearchView.{SearchView, Lawful}
+use Rattle.sc_solver.specs.Units.{IsFalseIn, IsUnit, IsOpen}
 
--- what is searched and set so far, and which variables are marked
+-- What is searched and set so far, which variables are marked, what was learned, and of each variable
+-- the clause by which it was set, its score and its last value.
 pub record LearnerView (T L : Type 0) : Type 0 where
   pub state : SearchView T L
   pub marks : List Bool
+  pub learned : LearnedView
+  pub reasons : List Reason
+  pub preferences : PreferencesView
 
 -- What was learned follows from the clauses and the theory. There is a mark, a reason and a score for
 -- each variable, and room for a clause of all of them.
@@ -20,3 +35,33 @@ pub record IsLearner {T M L : Type 0} (models : T → M → Bool) (meets : M →
   pub reason_each : reasons ≡ state.vars
   pub score_each : scores ≡ state.vars
   pub room_for_all : room ≡ state.vars
+
+-- the clause of a reason, where it is still there
+abbrev pub clause_by : {T L : Type 0} → LearnerView T L → Reason → Option (List PLit)
+clause_by s (Given place) = slice_get s.state.clauses place
+clause_by s (Learned number) = clause_of s.learned number
+clause_by s Unknown = None
+
+-- of some clauses none is in conflict or a unit; or the clause of the reason is, unless it has no number
+abbrev pub IsMet : {T L : Type 0} → LearnerView T L → List (List PLit) → ClauseState → Reason → Type 0
+IsMet s clauses Conflict reason = MatchOption (clause_by s reason) (IsSpent s.learned) (All (IsFalseIn s.state.entries))
+IsMet s clauses (UnitLiteral l) reason = MatchOption (clause_by s reason) (IsSpent s.learned) (λ clause. IsUnit s.state.entries clause l)
+IsMet s clauses Open reason = All (IsOpen s.state.entries) clauses
+
+-- a literal follows by the clause of its reason from other literals that are marked
+abbrev pub IsExplained : {T L : Type 0} → LearnerView T L → List Bool → PLit → Type 0
+IsExplained s marks l = IsSomeAnd (clause_by s (slice_index_or s.reasons l.var Unknown)) (IsMarkedBut (slice_set marks l.var false) s.state.entries (Some l))
+
+-- no literal that follows by its reason from other marked ones is marked itself
+abbrev pub IsThin : {T L : Type 0} → LearnerView T L → List Bool → List Entry → Type 0
+IsThin s marks entries = All (λ (e : Entry). OnFalse e.decided (IsTrue (value_at marks e.literal.var) → ¬ IsExplained s marks e.literal)) entries
+
+-- The mark of a literal is taken away, where it was not decided and follows; `root` says that nothing
+-- before it was decided, and `next_root` that nothing up to it was.
+pub record IsThinnedAt {T L : Type 0} (s : LearnerView T L) (marks : List Bool) (root : Bool) (e : Entry) (next_root : Bool) : Type 0 where
+  pub next_root_is : IsTrue next_root ↔ (IsTrue root × (e.decided ≡ false))
+  pub fewer : HasMarks s.marks marks
+  pub others : (var : ℕ) → var ≢ e.literal.var → value_at marks var ≡ value_at s.marks var
+  pub decided : OnTrue e.decided (marks ≡ s.marks)
+  pub implied : OnFalse e.decided (IsTrue root → value_at marks e.literal.var ≡ false)
+  pub thin : OnFalse e.decided (IsTrue (value_at marks e.literal.var) → ¬ IsExplained s marks e.literal)

@@ -2,6 +2,7 @@ pub mod Assignment
 pub mod Clauses
 pub mod Dropping
 pub mod Learned
+pub mod LearnedUnits
 pub mod LearnerView
 pub mod Marks
 pub mod Preferences

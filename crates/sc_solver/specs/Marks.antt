@@ -1,10 +1,11 @@
 -- What follows from a part of a trail alone: the literals whose variables are marked.
 -- Marks are a list with one truth value for each variable.
-use Rattle.std.specs.Prelude.{◌≡◌, ◌⊎◌, ℕ, Bool, false, List, [], ◌∷◌, Option, Some, None, IsTrue, All}
-use Rattle.std.specs.Bool.{OnFalse}
+use Rattle.std.specs.Prelude.{◌≡◌, ◌≢◌, ◌⊎◌, ℕ, ◌<◌, Bool, false, List, [], ◌∷◌, length, map, filter, Option, Some, None, IsTrue, All, slice_index}
+use Rattle.std.specs.Bool.{OnTrue, OnFalse}
+use Rattle.std.specs.List.{Any}
 use Rattle.sc_solver.specs.declared.literal.PLit.{PLit}
 use Rattle.sc_solver.specs.declared.trail.Entry.{Entry}
-use Rattle.sc_solver.specs.Assignment.{value_at, literal_value, meets_clause}
+use Rattle.sc_solver.specs.Assignment.{value_at, literal_value, meets_clause, negated}
 use Rattle.sc_solver.specs.Trail.{value_in, Forces, IsRefuted}
 use Rattle.sc_solver.specs.Units.{IsFalseIn}
 
@@ -50,3 +51,25 @@ IsMarkedBut marks es but clause = All (λ x. (but ≡ Some x) ⊎ (IsFalseIn es 
 -- what some marks force, fewer marks force as well
 abbrev pub IsAsStrong : (List Bool → Type 0) → List Entry → List Bool → List Bool → Type 0
 IsAsStrong Lawful es fewer more = (assignment : List Bool) → Lawful assignment → AgreesMarked assignment fewer es → AgreesMarked assignment more es
+
+-- each literal of the clause is false but for the one that is left out
+abbrev pub IsShownBy : List Entry → Option PLit → List PLit → Type 0
+IsShownBy es but clause = All (λ x. (but ≡ Some x) ⊎ IsFalseIn es x) clause
+
+-- what a clause marks: each literal that is false but for the one that is left out, up to the first that is
+-- not false; `shown` says that there is none such
+pub record IsMarkedBy (es : List Entry) (but : Option PLit) (clause : List PLit) (old new : List Bool) (shown : Bool) : Type 0 where
+  pub more : HasMarks new old
+  pub only : (var : ℕ) → IsTrue (value_at new var) → IsTrue (value_at old var) ⊎ Any (λ x. (but ≢ Some x) × (x.var ≡ var)) clause
+  pub marked : OnTrue shown (IsMarkedBut new es but clause)
+  pub not_false : OnFalse shown (Any (λ x. (but ≢ Some x) × ¬ IsFalseIn es x) clause)
+
+-- what positions of a list of variables mark
+pub record IsMarkedAt (places positions : List ℕ) (old new : List Bool) : Type 0 where
+  pub more : HasMarks new old
+  pub only : (var : ℕ) → IsTrue (value_at new var) → IsTrue (value_at old var) ⊎ Any (λ p. (p < length places) × (slice_index places p ≡ var)) positions
+  pub marked : All (λ p. p < length places → IsTrue (value_at new (slice_index places p))) positions
+
+-- a literal, and the opposites of the marked literals among these
+abbrev pub collected : PLit → List Bool → List Entry → List PLit
+collected literal marks entries = literal ∷ map (λ (e : Entry). negated e.literal) (filter (λ (e : Entry). value_at marks e.literal.var) entries)

@@ -9,6 +9,10 @@ pub record PreferencesView : Type 0 where
   pub values : List Bool
   pub step : ℕ
 
+-- the value that a variable has now is its last
+abbrev pub noted : PreferencesView → PLit → PreferencesView
+noted p l = record p { values = slice_set p.values l.var l.plus }
+
 -- a number, or the largest of 64 bits where it is beyond
 abbrev pub capped : ℕ → ℕ
 capped n = min n (2 ^ 64 - 1)

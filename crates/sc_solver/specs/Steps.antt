@@ -1,5 +1,5 @@
 -- What a step of a search leaves.
-use Rattle.std.specs.Prelude.{◌≡◌, ℕ, ◌+◌, ◌-◌, ◌<◌, ◌≤◌, Bool, List, [], length, None}
+use Rattle.std.specs.Prelude.{◌≡◌, ℕ, ◌+◌, ◌-◌, ◌<◌, ◌≤◌, Bool, true, false, List, [], ◌∷◌, length, None}
 use Rattle.sc_theory.specs.Models.{HasModel}
 use Rattle.sc_solver.specs.declared.literal.PLit.{PLit}
 use Rattle.sc_solver.specs.declared.trail.Entry.{Entry}
@@ -28,6 +28,20 @@ IsReached literals models meets Open marks s = Unit {0}
 IsReached literals models meets Refuted marks s = IsRefutedMarked (Lawful models meets s) marks s.entries
 IsReached literals models meets Found marks s = IsSolved literals models meets s
 IsReached literals models meets Exhausted marks s = IsExhausted literals models meets s
+
+-- a literal is set without a decision, or the trail stays as it is and is refuted
+abbrev pub IsFollowed : List Entry → List Entry → PLit → Progress → Type 0
+IsFollowed old new l Open = new ≡ record { literal = l; decided = false } ∷ old
+IsFollowed old new l Refuted = new ≡ old
+IsFollowed old new l Found = ⊥
+IsFollowed old new l Exhausted = ⊥
+
+-- a literal is decided
+abbrev pub IsDecided : List Entry → List Entry → PLit → Progress → Type 0
+IsDecided old new l Open = new ≡ record { literal = l; decided = true } ∷ old
+IsDecided old new l Refuted = ⊥
+IsDecided old new l Found = ⊥
+IsDecided old new l Exhausted = ⊥
 
 -- a bound on the steps that are left
 abbrev pub work : {T L : Type 0} → Progress → SearchView T L → ℕ

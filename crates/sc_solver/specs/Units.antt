@@ -1,6 +1,6 @@
 -- What a clause says under a trail.
 use Rattle.std.specs.Prelude.{◌≡◌, ◌⊎◌, ℕ, false, List, Some, None, All}
-use Rattle.std.specs.List.{Any, AllWithin, Contains}
+use Rattle.std.specs.List.{Any, AllWithin, Contains, slice_get}
 use Rattle.sc_solver.specs.declared.literal.PLit.{PLit}
 use Rattle.sc_solver.specs.declared.trail.Entry.{Entry}
 use Rattle.sc_solver.specs.declared.units.ClauseState.{ClauseState}
@@ -16,20 +16,31 @@ pub record IsUnit (es : List Entry) (clause : List PLit) (l : PLit) : Type 0 whe
   pub there : Contains clause l
   pub others : All (λ x. IsFalseIn es x ⊎ (x ≡ l)) clause
 
--- each literal is false; each but one; or not
+-- the clause is in no conflict and no unit
+pub record IsOpen (es : List Entry) (clause : List PLit) : Type 0 where
+  pub not_false : Any (λ l. ¬ IsFalseIn es l) clause
+  pub no_unit : (l : PLit) → ¬ IsUnit es clause l
+
+-- each literal is false; each but one; or neither
 abbrev pub IsStateOf : List Entry → List PLit → ClauseState → Type 0
 IsStateOf es clause Conflict = All (IsFalseIn es) clause
 IsStateOf es clause (UnitLiteral l) = IsUnit es clause l
-IsStateOf es clause Open = Any (λ l. ¬ IsFalseIn es l) clause
+IsStateOf es clause Open = IsOpen es clause
 
--- a clause that is in conflict or a unit, or that there is none
-abbrev pub IsFoundIn : List Entry → List (List PLit) → ClauseState → Type 0
-IsFoundIn es clauses Conflict = Any (λ clause. IsStateOf es clause Conflict) clauses
-IsFoundIn es clauses (UnitLiteral l) = Any (λ clause. IsUnit es clause l) clauses
-IsFoundIn es clauses Open = All (λ clause. IsStateOf es clause Open) clauses
+-- the clause at a place is in a state
+pub record IsAt (es : List Entry) (clauses : List (List PLit)) (place : ℕ) (state : ClauseState) : Type 0 where
+  pub clause : List PLit
+  pub here : slice_get clauses place ≡ Some clause
+  pub is : IsStateOf es clause state
 
--- the same of the clauses from one place up to another
-abbrev pub IsFoundWithin : List Entry → List (List PLit) → ℕ → ℕ → ClauseState → Type 0
-IsFoundWithin es clauses start end Conflict = IsFoundIn es clauses Conflict
-IsFoundWithin es clauses start end (UnitLiteral l) = IsFoundIn es clauses (UnitLiteral l)
-IsFoundWithin es clauses start end Open = AllWithin (λ clause. IsStateOf es clause Open) clauses start end
+-- the clause at this place is in conflict or a unit, or none is
+abbrev pub IsFoundIn : List Entry → List (List PLit) → ClauseState → ℕ → Type 0
+IsFoundIn es clauses Conflict place = IsAt es clauses place Conflict
+IsFoundIn es clauses (UnitLiteral l) place = IsAt es clauses place (UnitLiteral l)
+IsFoundIn es clauses Open place = All (IsOpen es) clauses
+
+-- the same, or none of the clauses from one place up to another is
+abbrev pub IsFoundWithin : List Entry → List (List PLit) → ℕ → ℕ → ClauseState → ℕ → Type 0
+IsFoundWithin es clauses start end Conflict place = IsAt es clauses place Conflict
+IsFoundWithin es clauses start end (UnitLiteral l) place = IsAt es clauses place (UnitLiteral l)
+IsFoundWithin es clauses start end Open place = AllWithin (IsOpen es) clauses start end

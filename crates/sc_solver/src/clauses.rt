@@ -1,5 +1,5 @@
 ghost use Rattle.sc_solver.specs.Clauses.{HasRoom};
-ghost use Rattle.std.specs.Prelude.{◌≡◌, ◌↔◌, ◌<◌, ◌≤◌, IsTrue, [], ◌∷◌, ◌++◌, length, IfOk, OnOk, OnErr, Some, slice_get, map};
+ghost use Rattle.std.specs.Prelude.{◌≡◌, ◌↔◌, ◌<◌, ◌≤◌, ◌+◌, IsTrue, [], ◌∷◌, ◌++◌, length, IfOk, OnOk, OnErr, Some, slice_get, map};
 
 use crate::literal::PLit;
 use crate::room::{extend_within, push_within};
@@ -116,6 +116,7 @@ impl Clauses {
     pub fn push_within(&mut self, clause: &[PLit])
         requires { HasRoom self.old (length clause.now) }
         ensures list { self.new.list ≡ self.old.list ++ clause.now ∷ [] }
+        ensures held { self.new.held ≡ self.old.held + length clause.now }
         ensures literal_room { self.old.literal_room ≤ self.new.literal_room }
         ensures clause_room { self.old.clause_room ≤ self.new.clause_room }
     {

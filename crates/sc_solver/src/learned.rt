@@ -1,22 +1,29 @@
-ghost use Rattle.std.specs.Prelude.{◌≡◌, ◌⊎◌, ◌<◌, ◌≤◌, ◌+◌, ◌-◌, ◌^◌, [], Some, length, IfOk, All, MatchOption};
+ghost use Rattle.std.specs.Prelude.{◌≡◌, ◌<◌, ◌≤◌, ◌+◌, ◌-◌, ◌^◌, [], Some, length, IfOk, All, MatchOption};
 ghost use Rattle.std.specs.List.{slice_get};
-ghost use Rattle.std.specs.Option.{option_map};
-ghost use Rattle.sc_solver.specs.Clauses.{IsWithin};
-ghost use Rattle.sc_solver.specs.Learned.{IsAmong, clause_of};
-ghost use Rattle.sc_solver.specs.Units.{IsFoundIn};
+ghost use Rattle.std.specs.Option.{SomeIff, option_map};
+ghost use Rattle.sc_solver.specs.Clauses.{ClausesView, IsWithin};
+ghost use Rattle.sc_solver.specs.Learned.{IsAmong, IsPushed, IsSpent, clause_of, learned_list};
+ghost use Rattle.sc_solver.specs.LearnedUnits.{IsFoundLearned};
 
 use crate::clauses::Clauses;
 use crate::literal::PLit;
 use crate::trail::Trail;
-use crate::units::{ClauseState, Found, find_unit};
+use crate::units::{ClauseState, find_unit};
 use std::alloc::{AllocError, Global};
 use std::marker::Model;
 use std::mem;
 
+/// What a scan met: a conflict or a unit and the number of its clause, where it has one, or `Open`.
+#[derive(Clone, Copy)]
+pub struct FoundLearned {
+    pub state: ClauseState,
+    pub number: Option<usize>,
+}
+
 /// Clauses that were learned, in two generations with room for as many each. Where the later one
-/// is full, the earlier one is forgotten and the later one takes its place. Contracts see the
-/// clauses, the earlier ones first, how many were forgotten before them, by which the clauses keep
-/// their numbers, and how many literals a clause has at most.
+/// is full, the earlier one is forgotten and the later one takes its place. Contracts see both
+/// generations, how many clauses were forgotten before them, by which the clauses keep their numbers,
+/// and how many literals a clause has at most.
 #[derive(Drop)]
 pub struct Learned {
     earlier: Clauses,
@@ -30,13 +37,13 @@ pub struct Learned {
 }
 
 impl Model for Learned {
-    ghost use Rattle.std.specs.Prelude.{◌++◌};
     ghost use Rattle.sc_solver.specs.Learned.{LearnedView, IsWide};
 
     ghost Value = { LearnedView };
 
     ghost view = { λ l. record {
-      list = l.earlier.list ++ l.later.list;
+      earlier = l.earlier;
+      later = l.later;
       forgotten = l.forgotten;
       width = l.width;
     } };
@@ -54,7 +61,8 @@ impl Learned {
     ) -> Result<Learned, AllocError>
         requires clauses { 0 < clauses }
         requires width { width ≤ literals }
-        ensures { IfOk result (λ l. l ≡ record { list = []; forgotten = 0; width = width }) }
+        ensures { let room : ClausesView = record { list = []; held = 0; literal_room = literals; clause_room = clauses } in
+            IfOk result (λ l. l ≡ record { earlier = room; later = room; forgotten = 0; width = width }) }
     {
         let earlier = Clauses::with_room(alloc, clauses, literals)?;
         let later = Clauses::with_room(alloc, clauses, literals)?;
@@ -83,13 +91,14 @@ impl Learned {
         }
     }
 
-    /// Puts a clause behind the others, in place of the earlier ones where the later ones leave no
-    /// room for it.
+    /// Puts a clause behind the others. Where the later ones leave no room for it, they take the place
+    /// of the earlier ones, which are forgotten.
     pub fn push(&mut self, clause: &[PLit])
         requires { length clause.now ≤ self.old.width }
-        ensures among { All (IsAmong self.old.list clause.now) self.new.list }
-        ensures last { slice_get self.new.list (length self.new.list - 1) ≡ Some clause.now }
-        ensures width { self.new.width ≡ self.old.width }
+        ensures pushed { IsPushed self.old self.new clause.now }
+        ensures among { All (IsAmong (learned_list self.old) clause.now) (learned_list self.new) }
+        ensures last { let list = learned_list self.new in
+            slice_get list (length list - 1) ≡ Some clause.now }
     {
         if self.later.has_room(clause.len()) {
             self.later.push_within(clause);
@@ -101,40 +110,47 @@ impl Learned {
         }
     }
 
-    /// The number of the last clause, where numbers are not spent.
+    /// The number of the last clause, where it has one.
     pub fn last_number(&self) -> Option<usize>
-        requires { 0 < length self.now.list }
-        ensures { MatchOption result (2 ^ 64 ≤ self.now.forgotten + length self.now.list)
-            (λ number. number + 1 ≡ self.now.forgotten + length self.now.list) }
+        requires { 0 < length (learned_list self.now) }
+        ensures { let count = length (learned_list self.now) in
+            MatchOption result (IsSpent self.now) (λ number. number + 1 ≡ self.now.forgotten + count) }
     {
         let count = self.earlier.len().checked_add(self.later.len())?;
         let end = self.forgotten.checked_add(count)?;
         end.checked_sub(1)
     }
 
-    /// A conflict or unit among the clauses, or `Open` where there is none, with the number of its
-    /// clause. Each scan goes on behind what the last one met.
-    pub fn find_unit(&mut self, trail: &Trail) -> Found
-        requires { All (IsWithin trail.now.vars) self.old.list }
+    /// The number of the clause at a place behind so many others, where it has one.
+    fn number(&self, before: usize, place: usize) -> Option<usize>
+        ensures { let number = self.now.forgotten + (before + place) in
+            SomeIff result (number < 2 ^ 64) number }
+    {
+        self.forgotten.checked_add(before.checked_add(place)?)
+    }
+
+    /// A conflict or unit among the clauses, or `Open` where there is none. Each scan goes on behind
+    /// what the last one met.
+    pub fn find_unit(&mut self, trail: &Trail) -> FoundLearned
+        requires { All (IsWithin trail.now.vars) (learned_list self.old) }
         ensures kept { self.new ≡ self.old }
-        ensures found { IsFoundIn trail.now.entries self.old.list result.state }
+        ensures found { IsFoundLearned trail.now.entries self.old result.state result.number }
     {
         let later = find_unit(trail, &self.later, self.next_later);
-        let before = self.forgotten.wrapping_add(self.earlier.len());
         match later.state {
             ClauseState::Open => {
                 let earlier = find_unit(trail, &self.earlier, self.next_earlier);
                 self.next_earlier = earlier.clause.saturating_add(1);
-                Found {
+                FoundLearned {
                     state: earlier.state,
-                    clause: self.forgotten.wrapping_add(earlier.clause),
+                    number: self.number(0, earlier.clause),
                 }
             }
             state => {
                 self.next_later = later.clause.saturating_add(1);
-                Found {
+                FoundLearned {
                     state,
-                    clause: before.wrapping_add(later.clause),
+                    number: self.number(self.earlier.len(), later.clause),
                 }
             }
         }

@@ -1,22 +1,25 @@
-ghost use Rattle.std.specs.Prelude.{◌≡◌, ◌<◌, ◌≤◌, ◌+◌, ◌-◌, ◌∷◌, ◌++◌, [], None, suc, length, All, vec_len, IfOk, OnOk, OnErr, MatchOption, slice_set, false, Bool, List, IsTrue};
+ghost use Rattle.std.specs.Prelude.{◌≡◌, ◌<◌, ◌≤◌, ◌∷◌, ◌++◌, ◌⊎◌, [], None, length, All, vec_len, IfOk, OnOk, OnErr, slice_set};
 ghost use Rattle.std.specs.Bool.{OnTrue, OnFalse};
-ghost use Rattle.sc_solver.specs.Assignment.{literal_value, negated};
+ghost use Rattle.sc_solver.specs.Assignment.{negated};
 ghost use Rattle.sc_solver.specs.Clauses.{IsWithin};
-ghost use Rattle.sc_solver.specs.Marks.{ForcesMarked, HasMarks, IsAsStrong, IsBacked, IsBackedMarked, IsEntailed, IsRefutedMarked};
-ghost use Rattle.sc_solver.specs.Dropping.{IsDropped, IsLevelDropped};
-ghost use Rattle.sc_solver.specs.Root.{AreImplied, oldest};
-ghost use Rattle.sc_solver.specs.Scanned.{IsNext, IsScanned, IsScannedLearned};
+ghost use Rattle.sc_solver.specs.Marks.{ForcesMarked, HasMarks, IsRefutedMarked};
+ghost use Rattle.sc_solver.specs.Preferences.{noted};
+ghost use Rattle.sc_solver.specs.Scanned.{IsNext};
 ghost use Rattle.sc_solver.specs.SearchView.{Lawful, IsTaken, SameProblem};
-ghost use Rattle.sc_solver.specs.Steps.{IsSolved, IsExhausted, IsReached, IsTakenBack, work};
-ghost use Rattle.sc_solver.specs.Trail.{value_in, Forces, IsTrail};
-ghost use Rattle.sc_solver.specs.Work.{pending, rest};
+ghost use Rattle.sc_solver.specs.Steps.{IsDecided, IsExhausted, IsFollowed, IsReached, IsSolved, work};
+ghost use Rattle.sc_solver.specs.Trail.{value_in, Forces};
+ghost use Rattle.sc_solver.specs.Work.{rest};
+
+mod backtracking;
+mod explaining;
+mod scanning;
 
 use crate::clauses::Clauses;
 use crate::learned::Learned;
 use crate::literal::PLit;
-use crate::marking::{is_marked_but, mark_clause};
 use crate::preferences::Preferences;
 use crate::progress::Progress;
+use crate::reason::Reason;
 use crate::search::Search;
 use crate::trail::Entry;
 use crate::units::ClauseState;
@@ -32,24 +35,6 @@ const MOST_LEARNED: usize = 16_384;
 
 /// For how many literals a clause it has room, where there are so many variables.
 const USUAL_WIDTH: usize = 32;
-
-/// The clause by which a literal was set. It is a hint: what it shows is tried where it is used.
-#[derive(Clone, Copy)]
-enum Reason {
-    /// A clause that is searched.
-    Given(usize),
-    /// A clause that was learned, by its number.
-    Learned(usize),
-    /// None that is still there.
-    Unknown,
-}
-
-/// What a scan met, and at which clause.
-#[derive(Clone, Copy)]
-struct Step {
-    state: ClauseState,
-    reason: Reason,
-}
 
 /// A search that learns from its conflicts.
 #[derive(Drop)]
@@ -71,13 +56,20 @@ pub struct Learner<T: Theory> {
 
 impl<T: Theory> Model for Learner<T> {
     ghost use Rattle.std.specs.Prelude.{length, vec_len};
+    ghost use Rattle.sc_solver.specs.Learned.{learned_list};
     ghost use Rattle.sc_solver.specs.LearnerView.{LearnerView, IsLearner};
 
     ghost Value = { LearnerView T T.Lit };
 
-    ghost view = { λ s. record { state = s.state; marks = s.marks.items } };
+    ghost view = { λ s. record {
+      state = s.state;
+      marks = s.marks.items;
+      learned = s.learned;
+      reasons = s.reasons.items;
+      preferences = s.preferences;
+    } };
 
-    ghost invariant = { λ s. IsLearner T.models T.meets s.state s.learned.list s.learned.width
+    ghost invariant = { λ s. IsLearner T.models T.meets s.state (learned_list s.learned) s.learned.width
         (vec_len s.marks) (vec_len s.reasons) (length s.preferences.scores) s.draft.capacity };
 }
 
@@ -148,6 +140,7 @@ impl<T: Theory> Learner<T> {
         ensures ok { OnOk result (self.new.state
             ≡ record self.old.state { clauses = self.old.state.clauses ++ clause.now ∷ [] }) }
         ensures err { OnErr result (self.new.state ≡ self.old.state) }
+        ensures kept { self.new ≡ record self.old { state = self.new.state } }
     {
         self.state.push_clause(clause)
     }
@@ -157,198 +150,9 @@ impl<T: Theory> Learner<T> {
         ensures problem { SameProblem T.capacity T.takes T.models self.old.state self.new.state }
         ensures unset { self.new.state.entries ≡ [] }
         ensures nothing { T.literals self.new.state.theory ≡ [] }
+        ensures kept { self.new ≡ record self.old { state = self.new.state } }
     {
         self.state.restart();
-    }
-
-    /// A conflict or unit among the clauses that are searched.
-    fn scan_given(&mut self) -> Step
-        ensures state { self.new.state ≡ self.old.state }
-        ensures scanned { IsScanned T.literals T.models T.meets result.state self.old.state }
-    {
-        let found = self.state.find_unit(self.next);
-        self.next = found.clause.saturating_add(1);
-        Step {
-            state: found.state,
-            reason: Reason::Given(found.clause),
-        }
-    }
-
-    /// A conflict or unit among the clauses that were learned.
-    fn scan_learned(&mut self) -> Step
-        ensures state { self.new.state ≡ self.old.state }
-        ensures scanned { IsScannedLearned (Lawful T.models T.meets self.old.state) self.old.state.vars
-            self.old.state.entries result.state }
-    {
-        let found = self.learned.find_unit(self.state.trail());
-        Step {
-            state: found.state,
-            reason: Reason::Learned(found.clause),
-        }
-    }
-
-    /// A conflict or unit among all clauses, or `Open` where there is none. Those are scanned first
-    /// among which the last one was.
-    fn scan(&mut self) -> Step
-        ensures state { self.new.state ≡ self.old.state }
-        ensures scanned { IsScanned T.literals T.models T.meets result.state self.old.state }
-    {
-        if self.learned_first {
-            self.scan_learned_first()
-        } else {
-            self.scan_given_first()
-        }
-    }
-
-    /// The same, those that were learned first.
-    fn scan_learned_first(&mut self) -> Step
-        ensures state { self.new.state ≡ self.old.state }
-        ensures scanned { IsScanned T.literals T.models T.meets result.state self.old.state }
-    {
-        let learned = self.scan_learned();
-        match learned.state {
-            ClauseState::Open => {
-                self.learned_first = false;
-                self.scan_given()
-            }
-            _ => learned,
-        }
-    }
-
-    /// The same, those that were learned last.
-    fn scan_given_first(&mut self) -> Step
-        ensures state { self.new.state ≡ self.old.state }
-        ensures scanned { IsScanned T.literals T.models T.meets result.state self.old.state }
-    {
-        let given = self.scan_given();
-        match given.state {
-            ClauseState::Open => (),
-            _ => return given,
-        }
-        let learned = self.scan_learned();
-        match learned.state {
-            ClauseState::Open => given,
-            _ => {
-                self.learned_first = true;
-                learned
-            }
-        }
-    }
-
-    /// Marks why a literal follows, or where there is none why the trail is refuted: by the clause
-    /// of the reason where it shows that, else all that is set.
-    fn explain(&mut self, reason: Reason, literal: Option<PLit>)
-        requires { IsBacked (Lawful T.models T.meets self.old.state) self.old.state.entries literal }
-        ensures state { self.new.state ≡ self.old.state }
-        ensures more { HasMarks self.new.marks self.old.marks }
-        ensures marked { IsBackedMarked (Lawful T.models T.meets self.old.state) self.new.marks
-            self.old.state.entries literal }
-    {
-        if !self.mark_reason(reason, literal) {
-            self.marks.fill(true);
-        }
-    }
-
-    /// Marks why a literal follows by the clause of a reason, and says whether that shows it.
-    fn mark_reason(&mut self, reason: Reason, literal: Option<PLit>) -> bool
-        ensures state { self.new.state ≡ self.old.state }
-        ensures more { HasMarks self.new.marks self.old.marks }
-        ensures marked { OnTrue result (IsBackedMarked (Lawful T.models T.meets self.old.state)
-            self.new.marks self.old.state.entries literal) }
-        ensures each { length self.new.marks ≡ self.old.state.vars }
-        ensures is_trail { IsTrail self.old.state.vars self.old.state.entries }
-    {
-        let trail = self.state.trail();
-        match reason {
-            Reason::Given(index) => {
-                self.state
-                    .mark_clause(index, literal, self.marks.as_mut_slice())
-            }
-            Reason::Learned(number) => match self.learned.clause(number) {
-                Some(clause) => mark_clause(trail, clause, literal, self.marks.as_mut_slice()),
-                None => false,
-            },
-            Reason::Unknown => false,
-        }
-    }
-
-    /// Takes marks away from literals that follow from the marked ones that are left.
-    fn thin(&mut self)
-        ensures state { self.new.state ≡ self.old.state }
-        ensures strong { IsAsStrong (Lawful T.models T.meets self.old.state) self.old.state.entries
-            self.new.marks self.old.marks }
-    {
-        let mut root = true;
-        for place in 0..self.state.len() {
-            root = self.thin_at(place, root);
-        }
-    }
-
-    /// Takes the mark of the literal at a place of the trail away, counted from the oldest on, where
-    /// it follows from the marked ones that are left. `root` says that nothing before it was
-    /// decided, and the result that nothing up to it was.
-    fn thin_at(&mut self, place: usize, root: bool) -> bool
-        requires within { place < length self.old.state.entries }
-        requires root { OnTrue root (AreImplied (oldest place self.old.state.entries)) }
-        ensures state { self.new.state ≡ self.old.state }
-        ensures strong { IsAsStrong (Lawful T.models T.meets self.old.state) self.old.state.entries
-            self.new.marks self.old.marks }
-        ensures root { OnTrue result (AreImplied (oldest (place + 1) self.old.state.entries)) }
-    {
-        let entry = self.state.entry(place);
-        if entry.decided {
-            return false;
-        }
-        if self.is_explained(entry.literal, root) {
-            self.marks[entry.literal.var as usize] = false;
-        }
-        root
-    }
-
-    /// Whether a literal that is set follows from the marked ones without its own mark: by the clause
-    /// of its reason, or at all, which `root` says.
-    fn is_explained(&self, literal: PLit, root: bool) -> bool
-        requires within { literal.var < self.now.state.vars }
-        requires root { OnTrue root ((assignment : List Bool) → Lawful T.models T.meets self.now.state assignment
-            → IsTrue (literal_value assignment literal)) }
-        ensures { OnTrue result (ForcesMarked (Lawful T.models T.meets self.now.state)
-            (slice_set self.now.marks literal.var false) self.now.state.entries literal) }
-    {
-        let marks = self.marks.as_slice();
-        if root {
-            return true;
-        }
-        if !marks[literal.var as usize] {
-            return false;
-        }
-        match self.reasons[literal.var as usize] {
-            Reason::Given(index) => self.state.is_explained(index, literal, marks),
-            Reason::Learned(number) => match self.learned.clause(number) {
-                Some(clause) => is_marked_but(self.state.trail(), clause, literal, marks),
-                None => false,
-            },
-            Reason::Unknown => false,
-        }
-    }
-
-    /// Learns that a literal follows from the marked ones, and takes all marks away.
-    fn learn(&mut self, literal: PLit) -> Reason
-        requires within { literal.var < self.old.state.vars }
-        requires unset { value_in self.old.state.entries literal.var ≡ None }
-        requires forced { ForcesMarked (Lawful T.models T.meets self.old.state) self.old.marks
-            self.old.state.entries literal }
-        ensures { self.new.state ≡ self.old.state }
-    {
-        self.state
-            .collect(literal, self.marks.as_slice(), &mut self.draft);
-        self.marks.fill(false);
-        self.preferences.raise_all(self.draft.items());
-        self.preferences.age();
-        self.learned.push(self.draft.items());
-        match self.learned.last_number() {
-            Some(number) => Reason::Learned(number),
-            None => Reason::Unknown,
-        }
     }
 
     /// Makes a literal true, unless the theory refuses it. Then the literals that are why get marks.
@@ -358,8 +162,14 @@ impl<T: Theory> Learner<T> {
         requires follows { OnFalse entry.decided
             (Forces (Lawful T.models T.meets self.old.state) self.old.state.entries entry.literal) }
         ensures problem { SameProblem T.capacity T.takes T.models self.old.state self.new.state }
+        ensures kept { self.new ≡ record self.old {
+          state = self.new.state;
+          marks = self.new.marks;
+          preferences = noted self.old.preferences entry.literal;
+        } }
         ensures taken { OnTrue result (self.new.state.entries ≡ entry ∷ self.old.state.entries) }
         ensures refused { OnFalse result (self.new.state.entries ≡ self.old.state.entries) }
+        ensures unmarked { OnTrue result (self.new.marks ≡ self.old.marks) }
         ensures why { OnFalse result (ForcesMarked (Lawful T.models T.meets self.old.state) self.new.marks
             self.old.state.entries (negated entry.literal)) }
         ensures room { length self.old.state.entries < self.old.state.vars }
@@ -374,7 +184,14 @@ impl<T: Theory> Learner<T> {
         requires next { IsNext (Lawful T.models T.meets self.old.state) self.old.state.vars
             self.old.state.entries literal }
         ensures problem { SameProblem T.capacity T.takes T.models self.old.state self.new.state }
+        ensures kept { self.new ≡ record self.old {
+          state = self.new.state;
+          marks = self.new.marks;
+          reasons = slice_set self.old.reasons literal.var reason;
+          preferences = noted self.old.preferences literal;
+        } }
         ensures reached { IsReached T.literals T.models T.meets result self.new.marks self.new.state }
+        ensures set { IsFollowed self.old.state.entries self.new.state.entries literal result }
         ensures less { work result self.new.state ≤ rest self.old.state.vars self.old.state.entries }
         ensures room { length self.old.state.entries < self.old.state.vars }
     {
@@ -397,6 +214,8 @@ impl<T: Theory> Learner<T> {
         requires unset { value_in self.old.state.entries literal.var ≡ None }
         ensures problem { SameProblem T.capacity T.takes T.models self.old.state self.new.state }
         ensures reached { IsReached T.literals T.models T.meets result self.new.marks self.new.state }
+        ensures set { IsDecided self.old.state.entries self.new.state.entries literal result
+            ⊎ IsFollowed self.old.state.entries self.new.state.entries (negated literal) result }
         ensures less { work result self.new.state < work Progress.Open self.old.state }
     {
         let entry = Entry {
@@ -430,61 +249,6 @@ impl<T: Theory> Learner<T> {
                 None => Progress::Found,
             },
         }
-    }
-
-    /// Takes literals back, each for what it follows from, up to the first that alone stands for
-    /// its level, and then the rest of that level. Gives the opposite of that literal, which the
-    /// marked ones force.
-    fn pop_to_point(&mut self) -> Option<PLit>
-        requires { IsRefutedMarked (Lawful T.models T.meets self.old.state) self.old.marks
-            self.old.state.entries }
-        ensures problem { SameProblem T.capacity T.takes T.models self.old.state self.new.state }
-        ensures cases { MatchOption result (IsExhausted T.literals T.models T.meets self.new.state)
-            (IsTakenBack (Lawful T.models T.meets self.old.state) self.new.marks
-            self.old.state.vars self.old.state.entries self.new.state.entries) }
-    {
-        while let Some(entry) = self.state.pop() {
-            let literal = entry.literal;
-            if self.marks[literal.var as usize] {
-                self.preferences.raise(literal.var);
-                if entry.decided {
-                    return Some(literal.opposite());
-                }
-                if self.pop_free_level() {
-                    return Some(literal.opposite());
-                }
-                let reason = self.reasons[literal.var as usize];
-                self.explain(reason, Some(literal));
-            }
-        }
-        None
-    }
-
-    /// Takes the latest level back where nothing is marked in it, and says whether that was so.
-    fn pop_free_level(&mut self) -> bool
-        ensures problem { SameProblem T.capacity T.takes T.models self.old.state self.new.state }
-        ensures marks { self.new.marks ≡ self.old.marks }
-        ensures dropped { OnTrue result (IsLevelDropped self.old.marks self.old.state.vars
-            self.old.state.entries self.new.state.entries) }
-        ensures kept { OnFalse result (self.new.state.entries ≡ self.old.state.entries) }
-    {
-        let free = self.state.trail().is_free_level(self.marks.as_slice());
-        if free {
-            self.state.pop_level(self.marks.as_slice());
-        }
-        free
-    }
-
-    /// Takes back the levels in which nothing is marked, from the latest on.
-    fn pop_free_levels(&mut self)
-        ensures problem { SameProblem T.capacity T.takes T.models self.old.state self.new.state }
-        ensures marks { self.new.marks ≡ self.old.marks }
-        ensures dropped { IsDropped self.old.marks self.old.state.vars self.old.state.entries
-            self.new.state.entries }
-        ensures no_more { let vars = self.old.state.vars in
-            rest vars self.new.state.entries ≤ rest vars self.old.state.entries }
-    {
-        while self.pop_free_level() {}
     }
 
     /// Learns from a conflict, goes back over the decisions that have no part in what was learned,

@@ -8,7 +8,9 @@
 //! search goes back over all decisions that had no part in it.
 //!
 //! - `solver`: `Solver`, what callers see, and `Answer`.
-//! - `learner`: the steps of a search, and what is learned from its conflicts.
+//! - `learner`: the steps of a search, with its modules `scanning` (what is met next), `explaining` (what
+//!   is learned from a conflict) and `backtracking` (what is taken back).
+//! - `reason`: the clause by which a literal was set.
 //! - `search`: the clauses, the theory and the trail in step.
 //! - `progress`: where a search stands.
 //! - `learned`: the clauses that were learned.
@@ -30,6 +32,7 @@ mod literal;
 mod marking;
 mod preferences;
 mod progress;
+mod reason;
 mod room;
 mod search;
 mod solver;

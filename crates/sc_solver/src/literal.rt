@@ -1,4 +1,4 @@
-ghost use Rattle.std.specs.Prelude.{◌≡◌};
+ghost use Rattle.std.specs.Prelude.{◌≡◌, ◌↔◌, IsTrue};
 ghost use Rattle.sc_solver.specs.Assignment.{negated, signed};
 
 /// A literal of a clause: a variable that is to be true, or one that is to be false.
@@ -16,6 +16,13 @@ impl PLit {
         ensures { result ≡ signed self value }
     {
         if self.plus { value } else { !value }
+    }
+
+    /// Whether this is the same literal.
+    pub(crate) fn is_same(self, other: PLit) -> bool
+        ensures { IsTrue result ↔ (self ≡ other) }
+    {
+        self.var == other.var && self.plus == other.plus
     }
 
     /// The literal that is true where this one is false.

@@ -1,10 +1,8 @@
-ghost use Rattle.std.specs.Prelude.{◌≡◌, ◌≢◌, ◌↔◌, ◌⊎◌, ◌<◌, ◌≤◌, ◌+◌, ◌++◌, length, IsTrue, All, vec_len, vec_capacity, slice_index, slice_set, false, Some};
-ghost use Rattle.std.specs.Bool.{OnTrue, OnFalse};
+ghost use Rattle.std.specs.Prelude.{◌≡◌, ◌↔◌, ◌<◌, ◌≤◌, ◌++◌, length, IsTrue, All, vec_len, vec_capacity, slice_set, false, Some};
 ghost use Rattle.std.specs.Option.{option_map, option_to_list};
-ghost use Rattle.std.specs.List.{Any, Contains};
-ghost use Rattle.sc_solver.specs.Assignment.{negated, value_at};
+ghost use Rattle.sc_solver.specs.Assignment.{value_at};
 ghost use Rattle.sc_solver.specs.Clauses.{IsWithin};
-ghost use Rattle.sc_solver.specs.Marks.{HasMarks, IsMarkedBut};
+ghost use Rattle.sc_solver.specs.Marks.{IsMarkedAt, IsMarkedBut, IsMarkedBy, collected};
 ghost use Rattle.sc_solver.specs.Units.{IsFalseIn};
 
 use crate::literal::PLit;
@@ -17,16 +15,14 @@ use sc_theory::LitBuf;
 pub fn mark_clause(trail: &Trail, clause: &[PLit], but: Option<PLit>, marks: &mut [bool]) -> bool
     requires within { IsWithin trail.now.vars clause.now }
     requires one_each { length marks.old ≡ trail.now.vars }
-    ensures more { HasMarks marks.new marks.old }
-    ensures marked { OnTrue result (IsMarkedBut marks.new trail.now.entries but clause.now) }
-    ensures not_false { OnFalse result (Any (λ x. (but ≢ Some x) × ¬ IsFalseIn trail.now.entries x) clause.now) }
+    ensures { IsMarkedBy trail.now.entries but clause.now marks.old marks.new result }
 {
     for literal in clause {
         if !is_same(but, *literal) {
-            match trail.literal_value(*literal) {
-                Some(false) => marks[literal.var as usize] = true,
-                _ => return false,
+            if !trail.is_false(*literal) {
+                return false;
             }
+            marks[literal.var as usize] = true;
         }
     }
     true
@@ -36,8 +32,8 @@ pub fn mark_clause(trail: &Trail, clause: &[PLit], but: Option<PLit>, marks: &mu
 pub fn is_marked_but(trail: &Trail, clause: &[PLit], literal: PLit, marks: &[bool]) -> bool
     requires within { IsWithin trail.now.vars clause.now }
     requires one_each { length marks.now ≡ trail.now.vars }
-    ensures { OnTrue result (IsMarkedBut (slice_set marks.now literal.var false) trail.now.entries
-        (Some literal) clause.now) }
+    ensures { IsTrue result
+        ↔ IsMarkedBut (slice_set marks.now literal.var false) trail.now.entries (Some literal) clause.now }
 {
     for other in clause {
         if !is_same(Some(literal), *other) {
@@ -53,12 +49,10 @@ pub fn is_marked_but(trail: &Trail, clause: &[PLit], literal: PLit, marks: &[boo
 fn is_marked_false(trail: &Trail, literal: PLit, marks: &[bool]) -> bool
     requires within { literal.var < trail.now.vars }
     requires one_each { length marks.now ≡ trail.now.vars }
-    ensures { OnTrue result (IsFalseIn trail.now.entries literal × IsTrue (value_at marks.now literal.var)) }
+    ensures { IsTrue result
+        ↔ (IsFalseIn trail.now.entries literal × IsTrue (value_at marks.now literal.var)) }
 {
-    match trail.literal_value(literal) {
-        Some(false) => marks[literal.var as usize],
-        _ => false,
-    }
+    trail.is_false(literal) && marks[literal.var as usize]
 }
 
 /// Whether there is a literal, and it is this one.
@@ -66,7 +60,7 @@ fn is_same(literal: Option<PLit>, other: PLit) -> bool
     ensures { IsTrue result ↔ (literal ≡ Some other) }
 {
     match literal {
-        Some(literal) => literal.var == other.var && literal.plus == other.plus,
+        Some(literal) => literal.is_same(other),
         None => false,
     }
 }
@@ -74,9 +68,7 @@ fn is_same(literal: Option<PLit>, other: PLit) -> bool
 /// Marks the variables at these positions of a list.
 pub fn mark_places(places: &[u32], positions: &[u32], marks: &mut [bool])
     requires { All (λ var. var < length marks.old) places.now }
-    ensures more { HasMarks marks.new marks.old }
-    ensures marked { All (λ p. p < length places.now → IsTrue (value_at marks.new (slice_index places.now p)))
-        positions.now }
+    ensures { IsMarkedAt places.now positions.now marks.old marks.new }
 {
     for position in positions {
         let position = *position as usize;
@@ -97,15 +89,12 @@ pub fn push_place<L: Copy>(places: &mut Vec<u32>, literal: Option<L>, var: u32)
     }
 }
 
-/// Makes a clause of a literal and of the opposites of the marked ones.
+/// Makes a clause of a literal and of the opposites of the marked ones among these.
 pub fn collect(entries: &[Entry], literal: PLit, marks: &[bool], clause: &mut LitBuf<PLit>)
     requires within { All (λ e. e.literal.var < length marks.now) entries.now }
     requires room { length entries.now < clause.old.capacity }
     ensures capacity { clause.new.capacity ≡ clause.old.capacity }
-    ensures few { length clause.new.items ≤ length entries.now + 1 }
-    ensures first { Contains clause.new.items literal }
-    ensures others { All (λ e. IsTrue (value_at marks.now e.literal.var) → Contains clause.new.items (negated e.literal)) entries.now }
-    ensures only { All (λ x. (x ≡ literal) ⊎ Any (λ e. x ≡ negated e.literal) entries.now) clause.new.items }
+    ensures items { clause.new.items ≡ collected literal marks.now entries.now }
 {
     clause.clear();
     clause.push(literal);

@@ -1,6 +1,6 @@
 ghost use Rattle.std.specs.Prelude.{◌≡◌, ◌≢◌, ◌↔◌, ℕ, ◌<◌, ◌≤◌, None, IsTrue, IfOk, IfSome, MatchOption, false, length, replicate, slice_index, slice_index_or, slice_set};
 ghost use Rattle.sc_solver.specs.Clauses.{IsWithin};
-ghost use Rattle.sc_solver.specs.Preferences.{raised, raised_all, scaled_down, aged};
+ghost use Rattle.sc_solver.specs.Preferences.{noted, raised, raised_all, scaled_down, aged};
 ghost use Rattle.sc_solver.specs.Trail.{value_in};
 
 use crate::literal::PLit;
@@ -60,8 +60,7 @@ impl Preferences {
     /// Notes the value that a variable has.
     pub fn note(&mut self, literal: PLit)
         requires { literal.var < length self.old.scores }
-        ensures { self.new
-            ≡ record self.old { values = slice_set self.old.values literal.var literal.plus } }
+        ensures { self.new ≡ noted self.old literal }
     {
         self.values[literal.var as usize] = literal.plus;
     }

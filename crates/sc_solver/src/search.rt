@@ -1,14 +1,14 @@
-ghost use Rattle.std.specs.Prelude.{◌≡◌, ◌<◌, ◌≤◌, ◌∷◌, ◌++◌, [], None, length, All, vec_len, IfOk, IfSome, OnOk, OnErr, MatchOption, slice_set, false};
+ghost use Rattle.std.specs.Prelude.{◌≡◌, ◌↔◌, ◌<◌, ◌≤◌, ◌∷◌, ◌++◌, [], None, Some, length, reverse, All, vec_len, IfOk, IfSome, IsSomeAnd, IsTrue, OnOk, OnErr, MatchOption, slice_get, slice_set, false};
 ghost use Rattle.std.specs.Bool.{OnTrue, OnFalse};
-ghost use Rattle.std.specs.List.{Contains};
 ghost use Rattle.sc_solver.specs.Assignment.{negated};
 ghost use Rattle.sc_solver.specs.Clauses.{IsWithin};
-ghost use Rattle.sc_solver.specs.Dropping.{IsDropped, IsLevelDropped};
-ghost use Rattle.sc_solver.specs.Marks.{ForcesMarked, HasMarks, IsFreeLevel, IsEntailed, IsBackedMarked};
+ghost use Rattle.sc_solver.specs.Dropping.{before_decision};
+ghost use Rattle.sc_solver.specs.Marks.{ForcesMarked, HasMarks, IsEntailed, IsBackedMarked, IsMarkedBut, IsMarkedBy, collected};
 ghost use Rattle.sc_solver.specs.SearchView.{Lawful, IsTaken, SameProblem};
 ghost use Rattle.sc_solver.specs.Root.{IsEntryAt};
 ghost use Rattle.sc_solver.specs.Scanned.{IsScanned};
 ghost use Rattle.sc_solver.specs.Trail.{value_in, Forces, Follows, IsTrail, trail_literals};
+ghost use Rattle.sc_solver.specs.Units.{IsFoundIn};
 
 use crate::asserting::{theory_literal, try_assert};
 use crate::clauses::Clauses;
@@ -145,6 +145,8 @@ impl<T: Theory> Search<T> {
         ensures problem { SameProblem T.capacity T.takes T.models self.old self.new }
         ensures taken { OnTrue result (self.new.entries ≡ entry ∷ self.old.entries) }
         ensures refused { OnFalse result (self.new.entries ≡ self.old.entries) }
+        ensures unmarked { OnTrue result (marks.new ≡ marks.old) }
+        ensures more { HasMarks marks.new marks.old }
         ensures why { OnFalse result (ForcesMarked (Lawful T.models T.meets self.old) marks.new
             self.old.entries (negated entry.literal)) }
         ensures room { length self.old.entries < self.old.vars }
@@ -185,11 +187,10 @@ impl<T: Theory> Search<T> {
         while self.pop().is_some() {}
     }
 
-    /// Takes literals back up to the latest decision, which goes too. None of them is marked.
-    pub fn pop_level(&mut self, marks: &[bool])
-        requires { IsFreeLevel marks.now self.old.entries }
+    /// Takes literals back up to the latest decision, which goes too.
+    pub fn pop_level(&mut self)
         ensures problem { SameProblem T.capacity T.takes T.models self.old self.new }
-        ensures dropped { IsLevelDropped marks.now self.old.vars self.old.entries self.new.entries }
+        ensures entries { self.new.entries ≡ before_decision self.old.entries }
     {
         while let Some(entry) = self.pop() {
             if entry.decided {
@@ -201,7 +202,8 @@ impl<T: Theory> Search<T> {
     /// A conflict or unit among the clauses, or `Open` where there is none. The scan begins at the
     /// clause `from` and goes round.
     pub fn find_unit(&self, from: usize) -> Found
-        ensures { IsScanned T.literals T.models T.meets result.state self.now }
+        ensures scanned { IsScanned T.literals T.models T.meets result.state self.now }
+        ensures found { IsFoundIn self.now.entries self.now.clauses result.state result.clause }
     {
         find_unit(&self.trail, &self.clauses, from)
     }
@@ -210,9 +212,11 @@ impl<T: Theory> Search<T> {
     /// is in conflict. Says whether the clause shows that.
     pub fn mark_clause(&self, index: usize, literal: Option<PLit>, marks: &mut [bool]) -> bool
         requires { length marks.old ≡ self.now.vars }
-        ensures more { HasMarks marks.new marks.old }
         ensures shown { OnTrue result (IsBackedMarked (Lawful T.models T.meets self.now) marks.new
             self.now.entries literal) }
+        ensures by { MatchOption (slice_get self.now.clauses index)
+            ((result ≡ false) × (marks.new ≡ marks.old))
+            (λ clause. IsMarkedBy self.now.entries literal clause marks.old marks.new result) }
     {
         if index < self.clauses.len() {
             mark_clause(&self.trail, self.clauses.clause(index), literal, marks)
@@ -224,8 +228,10 @@ impl<T: Theory> Search<T> {
     /// Whether a clause shows that a literal follows from the marked ones without its own mark.
     pub fn is_explained(&self, index: usize, literal: PLit, marks: &[bool]) -> bool
         requires { length marks.now ≡ self.now.vars }
-        ensures { OnTrue result (ForcesMarked (Lawful T.models T.meets self.now)
+        ensures forced { OnTrue result (ForcesMarked (Lawful T.models T.meets self.now)
             (slice_set marks.now literal.var false) self.now.entries literal) }
+        ensures by { IsTrue result ↔ IsSomeAnd (slice_get self.now.clauses index)
+            (IsMarkedBut (slice_set marks.now literal.var false) self.now.entries (Some literal)) }
     {
         if index < self.clauses.len() {
             is_marked_but(&self.trail, self.clauses.clause(index), literal, marks)
@@ -238,6 +244,7 @@ impl<T: Theory> Search<T> {
     pub fn entry(&self, place: usize) -> Entry
         requires { place < length self.now.entries }
         ensures within { result.literal.var < self.now.vars }
+        ensures place { slice_get (reverse self.now.entries) place ≡ Some result }
         ensures here { IsEntryAt (Lawful T.models T.meets self.now) self.now.entries place result }
     {
         self.trail.entries()[place]
@@ -250,6 +257,7 @@ impl<T: Theory> Search<T> {
         requires one_each { length marks.now ≡ self.now.vars }
         requires forced { ForcesMarked (Lawful T.models T.meets self.now) marks.now self.now.entries literal }
         requires room { clause.old.capacity ≡ self.now.vars }
+        ensures items { clause.new.items ≡ collected literal marks.now (reverse self.now.entries) }
         ensures entailed { IsEntailed (Lawful T.models T.meets self.now) clause.new.items }
         ensures within { IsWithin self.now.vars clause.new.items }
         ensures few { length clause.new.items ≤ self.now.vars }

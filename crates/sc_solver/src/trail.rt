@@ -1,6 +1,7 @@
 ghost use Rattle.std.specs.Prelude.{◌≡◌, ◌↔◌, ◌<◌, IsTrue, [], ◌∷◌, None, length, reverse, IfOk, MatchOption};
 ghost use Rattle.sc_solver.specs.Marks.{IsFreeLevel};
 ghost use Rattle.sc_solver.specs.Trail.{value_in, literal_in};
+ghost use Rattle.sc_solver.specs.Units.{IsFalseIn};
 
 use crate::literal::PLit;
 use std::alloc::{AllocError, Global};
@@ -60,6 +61,14 @@ impl Trail {
     {
         let value = self.value(literal.var)?;
         Some(literal.value_by(value))
+    }
+
+    /// Whether a literal is false.
+    pub fn is_false(&self, literal: PLit) -> bool
+        requires { literal.var < self.now.vars }
+        ensures { IsTrue result ↔ IsFalseIn self.now.entries literal }
+    {
+        matches!(self.literal_value(literal), Some(false))
     }
 
     /// The literals that are true so far, the oldest first.

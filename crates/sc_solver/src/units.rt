@@ -13,7 +13,7 @@ pub enum ClauseState {
     Conflict,
     /// Each literal is false but this one, which is not set.
     UnitLiteral(PLit),
-    /// Some literal is true, or more than one is not set.
+    /// Some literal is true, or two that differ are not set.
     Open,
 }
 
@@ -22,12 +22,13 @@ pub fn clause_state(trail: &Trail, clause: &[PLit]) -> ClauseState
     requires { IsWithin trail.now.vars clause.now }
     ensures { IsStateOf trail.now.entries clause.now result }
 {
-    let mut unset = None;
+    let mut unset: Option<PLit> = None;
     for literal in clause {
         match trail.literal_value(*literal) {
             Some(true) => return ClauseState::Open,
             Some(false) => (),
             None => match unset {
+                Some(other) if other.is_same(*literal) => (),
                 Some(_) => return ClauseState::Open,
                 None => unset = Some(*literal),
             },
@@ -39,18 +40,19 @@ pub fn clause_state(trail: &Trail, clause: &[PLit]) -> ClauseState
     }
 }
 
-/// What a scan met, and at which clause.
+/// What a scan met: a conflict or a unit and the place of its clause, or `Open`, where the place
+/// says nothing.
 #[derive(Clone, Copy)]
 pub struct Found {
     pub state: ClauseState,
     pub clause: usize,
 }
 
-/// The first conflict or unit that a scan of all clauses meets, or `Open` where there is none. The
-/// scan begins at the clause `from` and goes round.
+/// A conflict or unit among the clauses, or `Open` where there is none. The scan begins at the clause
+/// `from` and goes round.
 pub fn find_unit(trail: &Trail, clauses: &Clauses, from: usize) -> Found
     requires { All (IsWithin trail.now.vars) clauses.now.list }
-    ensures { IsFoundIn trail.now.entries clauses.now.list result.state }
+    ensures { IsFoundIn trail.now.entries clauses.now.list result.state result.clause }
 {
     let count = clauses.len();
     let middle = from.min(count);
@@ -65,7 +67,7 @@ pub fn find_unit(trail: &Trail, clauses: &Clauses, from: usize) -> Found
 fn scan(trail: &Trail, clauses: &Clauses, start: usize, end: usize) -> Found
     requires within { All (IsWithin trail.now.vars) clauses.now.list }
     requires inside { end ≤ length clauses.now.list }
-    ensures { IsFoundWithin trail.now.entries clauses.now.list start end result.state }
+    ensures { IsFoundWithin trail.now.entries clauses.now.list start end result.state result.clause }
 {
     for clause in start..end {
         match clause_state(trail, clauses.clause(clause)) {

@@ -1,7 +1,7 @@
 use Rattle.std.proofs.Common.{◌++◌, ◌∷◌, [], subst}
 use Rattle.std.specs.List.{All}
 use Rattle.std.proofs.lemmas.List.Elements.{All-contains_itself}
-use Rattle.sc_solver.specs.Learned.{LearnedView, IsAmong}
+use Rattle.sc_solver.specs.Learned.{LearnedView, IsAmong, learned_list}
 use Rattle.sc_solver.proofs.Generations.{among_pushed, later_among, last_pushed}
 use Rattle.sc_solver.proofs.learned.Learned.push.Goals as goal
 
@@ -11,7 +11,7 @@ returns-then-has_room-clause-among c =
     let later = c.self.inside.later.list in
     let clause = c.args.clause.now in
     rw c.push_within.ensures.list
-    (subst (λ (v : LearnedView). All (IsAmong v.list clause) (earlier ++ (later ++ clause ∷ []))) c.self.view_is
+    (subst (λ (v : LearnedView). All (IsAmong (learned_list v) clause) (earlier ++ (later ++ clause ∷ []))) c.self.view_is
     (among_pushed (earlier ++ later) earlier later clause (All-contains_itself (earlier ++ later))))
 
 pub returns-then-has_room-clause-last : goal.returns-then-has_room-clause-last
@@ -24,7 +24,7 @@ returns-else-has_room-clause-among c =
     let later = c.self.inside.later.list in
     let clause = c.args.clause.now in
     rw (c.push_within-else-has_room.ensures.list, c.clear.ensures.list, c.swap.ensures.x_after)
-    (subst (λ (v : LearnedView). All (IsAmong v.list clause) (later ++ ([] ++ clause ∷ []))) c.self.view_is
+    (subst (λ (v : LearnedView). All (IsAmong (learned_list v) clause) (later ++ ([] ++ clause ∷ []))) c.self.view_is
     (among_pushed (earlier ++ later) later [] clause (later_among earlier later)))
 
 pub returns-else-has_room-clause-last : goal.returns-else-has_room-clause-last

@@ -8,7 +8,7 @@ use Rattle.sc_solver.proofs.learner.Learner.pop_free_levels.Given as goal
 abbrev pub invariant-loop : goal.invariant-loop
 invariant-loop g l = let T = g.T.Theory in record {
   problem : SameProblem T.capacity T.takes T.models l.initial.self.state l.self.state;
-  marks : l.self.marks ≡ l.initial.self.marks;
+  kept : l.self ≡ record l.initial.self { state = l.self.state };
   dropped : IsDropped l.initial.self.marks l.initial.self.state.vars l.initial.self.state.entries l.self.state.entries;
   no_more : let vars = l.initial.self.state.vars in rest vars l.self.state.entries ≤ rest vars l.initial.self.state.entries;
 }

@@ -1,5 +1,5 @@
 -- What is left and marked is refuted, and there is no more work left.
-use Rattle.std.proofs.Common.{◌≤◌, length}
+use Rattle.std.proofs.Common.{◌≡◌, ◌≤◌, length}
 use Rattle.sc_solver.specs.Marks.{IsRefutedMarked}
 use Rattle.sc_solver.specs.SearchView.{Lawful, SameProblem}
 use Rattle.sc_solver.specs.Work.{pending}
@@ -8,6 +8,7 @@ use Rattle.sc_solver.proofs.learner.Learner.pop_to_point.Given as goal
 abbrev pub invariant-loop-entry : goal.invariant-loop-entry
 invariant-loop-entry g l = let T = g.T.Theory in record {
   problem : SameProblem T.capacity T.takes T.models l.initial.self.state l.self.state;
+  kept : l.self ≡ record l.initial.self { state = l.self.state; marks = l.self.marks; preferences = l.self.preferences };
   refuted : IsRefutedMarked (Lawful T.models T.meets l.initial.self.state) l.self.marks l.self.state.entries;
   no_more : pending l.initial.self.state.vars l.self.state.entries ≤ pending l.initial.self.state.vars l.initial.self.state.entries;
 }

@@ -1,5 +1,7 @@
-use Rattle.std.proofs.Common.{◌≡◌, ◌+◌, ◌-◌, ◌<◌, false, get_or, length, ap, sym, subst, ◌∙◌, arith}
-use Rattle.std.proofs.lemmas.List.{length-reverse, get_or_default}
+use Rattle.std.proofs.Common.{◌≡◌, ◌+◌, ◌-◌, ◌<◌, false, get_or, length, reverse, Some, ap, sym, subst, ◌∙◌, arith}
+use Rattle.std.specs.List.{slice_get}
+use Rattle.std.proofs.lemmas.List.{length-reverse, reverse-reverse, get_or_default}
+use Rattle.std.proofs.lemmas.Option.{slice_get-get_or}
 use Rattle.sc_solver.specs.declared.trail.Entry.{Entry}
 use Rattle.sc_solver.specs.Root.{IsEntryAt}
 use Rattle.sc_solver.specs.SearchView.{SearchView, Lawful}
@@ -39,3 +41,13 @@ returns-clause-here g c =
     ∙ get_or_default es (length es - (c.args.place + 1)) d e (omega (arith, there)) in
     subst (λ (v : SearchView _ _). IsEntryAt (Lawful T.models T.meets v) v.entries c.args.place e) c.self.view_is
     (entry_at (Lawful T.models T.meets s) s.vars es c.args.place e c.self.invariant.state.is_trail c.self.invariant.state.follows there is)
+
+pub returns-clause-place : goal.returns-clause-place
+returns-clause-place g c =
+    let items = c.entries.result.now in
+    let count = ap (λ (v : SearchView _ _). length v.entries) c.self.view_is in
+    let d : Entry = record { literal = record { var = 0; plus = false }; decided = false } in
+    let place : c.args.place < length items = omega (arith, count, c.requires, ap length c.entries.ensures, length-reverse items) in
+    let back : reverse c.self.inside.trail.entries ≡ items = ap reverse c.entries.ensures ∙ reverse-reverse items in
+    subst (λ (v : SearchView _ _). slice_get (reverse v.entries) c.args.place ≡ Some (get_or items c.args.place d)) c.self.view_is
+    (rw back (slice_get-get_or items c.args.place d place))

@@ -1,11 +1,18 @@
 use Rattle.std.proofs.Common.{subst}
 use Rattle.sc_solver.specs.Scanned.{IsScanned}
 use Rattle.sc_solver.specs.SearchView.{SearchView}
-use Rattle.sc_solver.proofs.Scans.{search_scanned}
+use Rattle.sc_solver.specs.Units.{IsFoundIn}
+use Rattle.sc_solver.proofs.Shown.{search_scanned}
 use Rattle.sc_solver.proofs.search.Search.find_unit.Goals as goal
 
-pub returns : goal.returns
-returns g c =
+pub returns-clause-scanned : goal.returns-clause-scanned
+returns-clause-scanned g c =
     let T = g.T.Theory in
-    subst (λ (s : SearchView _ _). IsScanned T.literals T.models T.meets c.find_unit.result.state s) c.self.view_is
-    (search_scanned T.models T.meets _ T.literals T.capacity T.takes c.find_unit.result.state c.self.invariant.state c.find_unit.ensures)
+    let found = c.find_unit.result in
+    subst (λ (s : SearchView _ _). IsScanned T.literals T.models T.meets found.state s) c.self.view_is
+    (search_scanned T.models T.meets _ T.literals T.capacity T.takes found.state found.clause c.self.invariant.state c.find_unit.ensures)
+
+pub returns-clause-found : goal.returns-clause-found
+returns-clause-found g c =
+    let found = c.find_unit.result in
+    subst (λ (s : SearchView _ _). IsFoundIn s.entries s.clauses found.state found.clause) c.self.view_is c.find_unit.ensures

@@ -1,4 +1,4 @@
-use Rattle.std.proofs.Common.{◌≡◌, ◌-◌, ◌<◌, ◌∷◌, get_or, length, reverse, take, sym, ap, subst, ◌∙◌, arith}
+use Rattle.std.proofs.Common.{◌≡◌, ◌-◌, ◌<◌, ◌∷◌, length, reverse, take, sym, ap, subst, ◌∙◌, arith}
 use Rattle.std.proofs.lemmas.Bool.{false≢true, both_ways, OnFalse_at, OnFalse_from}
 use Rattle.sc_solver.specs.Assignment.{value_at}
 use Rattle.sc_solver.specs.Marks.{IsFreeLevel}
