@@ -1,8 +1,9 @@
-ghost use Rattle.std.specs.Prelude.{◌≡◌, ◌<◌, ◌≤◌, ◌∷◌, ◌++◌, ◌⊎◌, [], None, length, All, vec_len, IfOk, OnOk, OnErr, slice_set};
+ghost use Rattle.std.specs.Prelude.{◌≡◌, ◌<◌, ◌≤◌, ◌∷◌, ◌++◌, ◌⊎◌, [], None, length, All, vec_len, IfOk, OnOk, OnErr, replicate, slice_set, false};
 ghost use Rattle.std.specs.Bool.{OnTrue, OnFalse};
 ghost use Rattle.sc_solver.specs.Assignment.{negated};
 ghost use Rattle.sc_solver.specs.Clauses.{IsWithin};
-ghost use Rattle.sc_solver.specs.Marks.{ForcesMarked, HasMarks, IsRefutedMarked};
+ghost use Rattle.sc_solver.specs.Learned.{learned_list};
+ghost use Rattle.sc_solver.specs.Marks.{ForcesMarked, IsRefutedMarked};
 ghost use Rattle.sc_solver.specs.Preferences.{noted};
 ghost use Rattle.sc_solver.specs.Scanned.{IsNext};
 ghost use Rattle.sc_solver.specs.SearchView.{Lawful, IsTaken, SameProblem};
@@ -88,13 +89,14 @@ impl<T: Theory + Drop> Learner<T> {
         requires one_each { vec_len atoms ≡ vars }
         requires taken { All (IsTaken (T.takes theory)) atoms.items }
         requires within { All (IsWithin vars) clauses.list }
-        ensures { IfOk result (λ s. s.state ≡ record {
+        ensures state { IfOk result (λ s. s.state ≡ record {
           vars = vars;
           clauses = clauses.list;
           atoms = atoms.items;
           theory = theory;
           entries = [];
         }) }
+        ensures nothing { IfOk result (λ s. (s.marks ≡ replicate vars false) × (learned_list s.learned ≡ [])) }
     {
         let most = FEWEST_LEARNED + (clauses.len() / 2).min(MOST_LEARNED);
         let width = vars as usize;
