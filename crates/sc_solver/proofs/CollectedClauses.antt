@@ -1,8 +1,8 @@
 -- A clause of a literal and of the opposites of the marked ones that force it.
-use Rattle.std.proofs.Common.{◌≡◌, ℕ, ◌+◌, ◌<◌, ◌≤◌, Bool, true, false, not, List, [], ◌∷◌, ◌++◌, length, map, filter, get_or, take, reverse, IsTrue, inl, inr, refl, sym, ap, ◌∙◌, arith}
+use Rattle.std.proofs.Common.{◌≡◌, ℕ, ◌+◌, ◌<◌, ◌≤◌, Bool, true, false, not, List, [], ◌∷◌, ◌++◌, length, map, filter, get_or, take, IsTrue, inl, inr, refl, sym, ap, ◌∙◌, arith}
 use Rattle.std.specs.List.{All, Contains}
 use Rattle.std.proofs.lemmas.Bool.{cases_eq, cases_Bool, both_ways, cond-true, cond-false}
-use Rattle.std.proofs.lemmas.List.{append-nil, length-map, map-append, reverse-reverse}
+use Rattle.std.proofs.lemmas.List.{append-nil, length-map, map-append}
 use Rattle.std.proofs.lemmas.List.Elements.{All-nil, All-cons, All-head, All-tail, All-filter, All-map, All-weaker, Contains-append_right, filter_more}
 use Rattle.std.proofs.lemmas.List.Folds.{list_any-from_Any}
 use Rattle.std.proofs.lemmas.List.Sums.{length-filter, count_by-le-length}
@@ -12,7 +12,7 @@ use Rattle.sc_solver.specs.Assignment.{value_at, literal_value, meets_clause, ne
 use Rattle.sc_solver.specs.Clauses.{IsWithin}
 use Rattle.sc_solver.specs.Marks.{AgreesMarked, ForcesMarked, IsEntailed, collected}
 use Rattle.sc_solver.proofs.Entailment.{value_from_true, literal_value-negated, same_some}
-use Rattle.sc_solver.proofs.Trails.{value_in-here, value_in-other, All-reversed}
+use Rattle.sc_solver.proofs.Trails.{value_in-here, value_in-other}
 
 contained_is_met : (a : List Bool) (clause : List PLit) (l : PLit) → Contains clause l → literal_value a l ≡ true → IsTrue (meets_clause a clause)
 contained_is_met a clause l (k, h, is) t = list_any-from_Any (literal_value a) clause (k, l, h, is, t)
@@ -34,9 +34,6 @@ unmet_agrees a marks clause (x ∷ es) unmet h v b is m = elim (cases_eq x.liter
       ap (value_at a) (sym q) ∙ value_from_true a x.literal here ∙ same_some x.literal.plus b (sym (value_in-here x es v q) ∙ is)
   | inr q ↦ unmet_agrees a marks clause es unmet (All-tail (λ e. IsTrue (value_at marks e.literal.var) → Contains clause (negated e.literal)) x es h) v b (sym (value_in-other x es v q) ∙ is) m
 ]
-
-All-reverse : {X : Type 0} (P : X → Type 0) (xs : List X) → All P xs → All P (reverse xs)
-All-reverse P xs h = All-reversed P (reverse xs) (rw (reverse-reverse xs) h)
 
 -- the opposites of the marked literals
 opposites : List Bool → List Entry → List PLit
@@ -71,7 +68,7 @@ opposites-there marks (x ∷ es) = elim (cases_Bool (value_at marks x.literal.va
 ]
 
 -- such a clause follows
-pub collected_entailed : (Lawful : List Bool → Type 0) (marks : List Bool) (entries : List Entry) (l : PLit) → ForcesMarked Lawful marks (reverse entries) l → IsEntailed Lawful (collected l marks entries)
+pub collected_entailed : (Lawful : List Bool → Type 0) (marks : List Bool) (entries : List Entry) (l : PLit) → ForcesMarked Lawful marks entries l → IsEntailed Lawful (collected l marks entries)
 unfolding opposites
 collected_entailed Lawful marks entries l forced a lawful =
     let clause = collected l marks entries in
@@ -81,7 +78,7 @@ collected_entailed Lawful marks entries l forced a lawful =
       | inl met ↦ met
       | inr unmet ↦
           contained_is_met a clause l (0, omega arith, refl)
-          (forced a lawful (unmet_agrees a marks clause (reverse entries) unmet (All-reverse (λ e. IsTrue (value_at marks e.literal.var) → Contains clause (negated e.literal)) entries others)))
+          (forced a lawful (unmet_agrees a marks clause entries unmet others))
     ]
 
 pub collected_within : (vars : ℕ) (marks : List Bool) (entries : List Entry) (l : PLit) → l.var < vars → All (λ (e : Entry). e.literal.var < vars) entries → IsWithin vars (collected l marks entries)

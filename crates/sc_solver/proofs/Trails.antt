@@ -80,7 +80,7 @@ length-unset n es l h below fresh =
     omega (arith, length-IsTrail n (e ∷ es) longer)
 
 -- each variable of a trail that is kept the other way round is below the number
-IsTrail-within : (vars : ℕ) (es : List Entry) → IsTrail vars es → All (λ (e : Entry). e.literal.var < vars) es
+pub IsTrail-within : (vars : ℕ) (es : List Entry) → IsTrail vars es → All (λ (e : Entry). e.literal.var < vars) es
 IsTrail-within vars [] h = All-nil (λ (e : Entry). e.literal.var < vars)
 IsTrail-within vars (e ∷ es) h = All-cons (λ (e : Entry). e.literal.var < vars) e es h.0 (IsTrail-within vars es h.1.1)
 

@@ -1,4 +1,4 @@
-ghost use Rattle.std.specs.Prelude.{◌≡◌, ◌↔◌, ◌<◌, ◌≤◌, ◌++◌, length, IsTrue, All, vec_len, vec_capacity, slice_set, false, Some};
+ghost use Rattle.std.specs.Prelude.{◌≡◌, ◌↔◌, ◌<◌, ◌≤◌, ◌++◌, length, reverse, IsTrue, All, vec_len, vec_capacity, slice_set, false, Some};
 ghost use Rattle.std.specs.Option.{option_map, option_to_list};
 ghost use Rattle.sc_solver.specs.Assignment.{value_at};
 ghost use Rattle.sc_solver.specs.Clauses.{IsWithin};
@@ -89,16 +89,17 @@ pub fn push_place<L: Copy>(places: &mut Vec<u32>, literal: Option<L>, var: u32)
     }
 }
 
-/// Makes a clause of a literal and of the opposites of the marked ones among these.
+/// Makes a clause of a literal and of the opposites of the marked ones among these, the last first.
 pub fn collect(entries: &[Entry], literal: PLit, marks: &[bool], clause: &mut LitBuf<PLit>)
     requires within { All (λ e. e.literal.var < length marks.now) entries.now }
     requires room { length entries.now < clause.old.capacity }
     ensures capacity { clause.new.capacity ≡ clause.old.capacity }
-    ensures items { clause.new.items ≡ collected literal marks.now entries.now }
+    ensures items { clause.new.items ≡ collected literal marks.now (reverse entries.now) }
 {
     clause.clear();
     clause.push(literal);
-    for entry in entries {
+    for passed in 0..entries.len() {
+        let entry = entries[entries.len() - 1 - passed];
         if marks[entry.literal.var as usize] {
             clause.push(entry.literal.opposite());
         }

@@ -250,14 +250,14 @@ impl<T: Theory> Search<T> {
         self.trail.entries()[place]
     }
 
-    /// Makes a clause of a literal that the marked ones force, and of their opposites.
+    /// Makes a clause of a literal that the marked ones force, and of their opposites, the latest first.
     pub fn collect(&self, literal: PLit, marks: &[bool], clause: &mut LitBuf<PLit>)
         requires within { literal.var < self.now.vars }
         requires unset { value_in self.now.entries literal.var ≡ None }
         requires one_each { length marks.now ≡ self.now.vars }
         requires forced { ForcesMarked (Lawful T.models T.meets self.now) marks.now self.now.entries literal }
         requires room { clause.old.capacity ≡ self.now.vars }
-        ensures items { clause.new.items ≡ collected literal marks.now (reverse self.now.entries) }
+        ensures items { clause.new.items ≡ collected literal marks.now self.now.entries }
         ensures entailed { IsEntailed (Lawful T.models T.meets self.now) clause.new.items }
         ensures within { IsWithin self.now.vars clause.new.items }
         ensures few { length clause.new.items ≤ self.now.vars }

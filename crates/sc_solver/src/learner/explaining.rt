@@ -133,15 +133,15 @@ impl<T: Theory> Learner<T> {
         requires unset { value_in self.old.state.entries literal.var ≡ None }
         requires forced { ForcesMarked (Lawful T.models T.meets self.old.state) self.old.marks
             self.old.state.entries literal }
-        ensures kept { let clause = collected literal self.old.marks (reverse self.old.state.entries) in
+        ensures kept { let clause = collected literal self.old.marks self.old.state.entries in
             self.new ≡ record self.old {
               marks = replicate (length self.old.marks) false;
               learned = self.new.learned;
               preferences = aged (raised_all self.old.preferences clause);
             } }
-        ensures pushed { let clause = collected literal self.old.marks (reverse self.old.state.entries) in
+        ensures pushed { let clause = collected literal self.old.marks self.old.state.entries in
             IsPushed self.old.learned self.new.learned clause }
-        ensures reason { let clause = collected literal self.old.marks (reverse self.old.state.entries) in
+        ensures reason { let clause = collected literal self.old.marks self.old.state.entries in
             MatchOption (clause_by self.new result) (IsSpent self.new.learned) (λ there. there ≡ clause) }
     {
         self.state
