@@ -22,8 +22,8 @@ pub struct FoundLearned {
 
 /// Clauses that were learned, in two generations with room for as many each. Where the later one
 /// is full, the earlier one is forgotten and the later one takes its place. Contracts see both
-/// generations, how many clauses were forgotten before them, by which the clauses keep their numbers,
-/// and how many literals a clause has at most.
+/// generations, how many clauses were forgotten before them, by which the clauses keep their
+/// numbers, and how many literals a clause has at most.
 #[derive(Drop)]
 pub struct Learned {
     earlier: Clauses,
@@ -61,8 +61,18 @@ impl Learned {
     ) -> Result<Learned, AllocError>
         requires clauses { 0 < clauses }
         requires width { width ≤ literals }
-        ensures { let room : ClausesView = record { list = []; held = 0; literal_room = literals; clause_room = clauses } in
-            IfOk result (λ l. l ≡ record { earlier = room; later = room; forgotten = 0; width = width }) }
+        ensures { let room : ClausesView = record {
+          list = [];
+          held = 0;
+          literal_room = literals;
+          clause_room = clauses;
+        } in
+            IfOk result (λ l. l ≡ record {
+              earlier = room;
+              later = room;
+              forgotten = 0;
+              width = width;
+            }) }
     {
         let earlier = Clauses::with_room(alloc, clauses, literals)?;
         let later = Clauses::with_room(alloc, clauses, literals)?;
@@ -91,8 +101,8 @@ impl Learned {
         }
     }
 
-    /// Puts a clause behind the others. Where the later ones leave no room for it, they take the place
-    /// of the earlier ones, which are forgotten.
+    /// Puts a clause behind the others. Where the later ones leave no room for it, they take the
+    /// place of the earlier ones, which are forgotten.
     pub fn push(&mut self, clause: &[PLit])
         requires { length clause.now ≤ self.old.width }
         ensures pushed { IsPushed self.old self.new clause.now }
@@ -114,7 +124,8 @@ impl Learned {
     pub fn last_number(&self) -> Option<usize>
         requires { 0 < length (learned_list self.now) }
         ensures { let count = length (learned_list self.now) in
-            MatchOption result (IsSpent self.now) (λ number. number + 1 ≡ self.now.forgotten + count) }
+            MatchOption result (IsSpent self.now)
+            (λ number. number + 1 ≡ self.now.forgotten + count) }
     {
         let count = self.earlier.len().checked_add(self.later.len())?;
         let end = self.forgotten.checked_add(count)?;

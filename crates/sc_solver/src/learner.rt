@@ -96,7 +96,8 @@ impl<T: Theory + Drop> Learner<T> {
           theory = theory;
           entries = [];
         }) }
-        ensures nothing { IfOk result (λ s. (s.marks ≡ replicate vars false) × (learned_list s.learned ≡ [])) }
+        ensures nothing { IfOk result (λ s.
+            (s.marks ≡ replicate vars false) × (learned_list s.learned ≡ [])) }
     {
         let most = FEWEST_LEARNED + (clauses.len() / 2).min(MOST_LEARNED);
         let width = vars as usize;

@@ -8,8 +8,8 @@
 //! search goes back over all decisions that had no part in it.
 //!
 //! - `solver`: `Solver`, what callers see, and `Answer`.
-//! - `learner`: the steps of a search, with its modules `scanning` (what is met next), `explaining` (what
-//!   is learned from a conflict) and `backtracking` (what is taken back).
+//! - `learner`: the steps of a search, with its modules `scanning` (what is met next), `explaining`
+//!   (what is learned from a conflict) and `backtracking` (what is taken back).
 //! - `reason`: the clause by which a literal was set.
 //! - `search`: the clauses, the theory and the trail in step.
 //! - `progress`: where a search stands.

@@ -33,7 +33,8 @@ pub fn is_marked_but(trail: &Trail, clause: &[PLit], literal: PLit, marks: &[boo
     requires within { IsWithin trail.now.vars clause.now }
     requires one_each { length marks.now ≡ trail.now.vars }
     ensures { IsTrue result
-        ↔ IsMarkedBut (slice_set marks.now literal.var false) trail.now.entries (Some literal) clause.now }
+        ↔ IsMarkedBut (slice_set marks.now literal.var false) trail.now.entries (Some literal)
+        clause.now }
 {
     for other in clause {
         if !is_same(Some(literal), *other) {

@@ -14,7 +14,8 @@ pub enum Reason {
 impl Reason {
     /// The learned clause of a number, where it has one.
     pub fn from_number(number: Option<usize>) -> Reason
-        ensures { MatchOption number (result ≡ Reason.Unknown) (λ number. result ≡ Reason.Learned number) }
+        ensures { MatchOption number (result ≡ Reason.Unknown)
+            (λ number. result ≡ Reason.Learned number) }
     {
         match number {
             Some(number) => Reason::Learned(number),

@@ -250,7 +250,8 @@ impl<T: Theory> Search<T> {
         self.trail.entries()[place]
     }
 
-    /// Makes a clause of a literal that the marked ones force, and of their opposites, the latest first.
+    /// Makes a clause of a literal that the marked ones force, and of their opposites, the latest
+    /// first.
     pub fn collect(&self, literal: PLit, marks: &[bool], clause: &mut LitBuf<PLit>)
         requires within { literal.var < self.now.vars }
         requires unset { value_in self.now.entries literal.var ≡ None }

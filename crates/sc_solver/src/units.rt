@@ -48,8 +48,8 @@ pub struct Found {
     pub clause: usize,
 }
 
-/// A conflict or unit among the clauses, or `Open` where there is none. The scan begins at the clause
-/// `from` and goes round.
+/// A conflict or unit among the clauses, or `Open` where there is none. The scan begins at the
+/// clause `from` and goes round.
 pub fn find_unit(trail: &Trail, clauses: &Clauses, from: usize) -> Found
     requires { All (IsWithin trail.now.vars) clauses.now.list }
     ensures { IsFoundIn trail.now.entries clauses.now.list result.state result.clause }

@@ -49,7 +49,8 @@ impl<T: Theory> Learner<T> {
         ensures problem { SameProblem T.capacity T.takes T.models self.old.state self.new.state }
         ensures kept { self.new ≡ record self.old { state = self.new.state } }
         ensures free { IsTrue result ↔ IsFreeLevel self.old.marks self.old.state.entries }
-        ensures dropped { OnTrue result (self.new.state.entries ≡ before_decision self.old.state.entries) }
+        ensures dropped { OnTrue result
+            (self.new.state.entries ≡ before_decision self.old.state.entries) }
         ensures same { OnFalse result (self.new.state.entries ≡ self.old.state.entries) }
     {
         let free = self.state.trail().is_free_level(self.marks.as_slice());

@@ -41,7 +41,8 @@ impl<T: Theory> Learner<T> {
             self.new.marks self.old.state.entries literal) }
         ensures by { MatchOption (clause_by self.old reason)
             ((result ≡ false) × (self.new.marks ≡ self.old.marks))
-            (λ clause. IsMarkedBy self.old.state.entries literal clause self.old.marks self.new.marks result) }
+            (λ clause. IsMarkedBy self.old.state.entries literal clause self.old.marks self.new.marks
+            result) }
         ensures each { length self.new.marks ≡ self.old.state.vars }
         ensures is_trail { IsTrail self.old.state.vars self.old.state.entries }
     {
@@ -142,7 +143,8 @@ impl<T: Theory> Learner<T> {
         ensures pushed { let clause = collected literal self.old.marks self.old.state.entries in
             IsPushed self.old.learned self.new.learned clause }
         ensures reason { let clause = collected literal self.old.marks self.old.state.entries in
-            MatchOption (clause_by self.new result) (IsSpent self.new.learned) (λ there. there ≡ clause) }
+            MatchOption (clause_by self.new result) (IsSpent self.new.learned)
+            (λ there. there ≡ clause) }
     {
         self.state
             .collect(literal, self.marks.as_slice(), &mut self.draft);
