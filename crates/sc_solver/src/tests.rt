@@ -1,106 +1,174 @@
-ghost use Rattle.std.specs.Prelude.{◌≡◌, ◌<◌, ◌≤◌, ◌+◌, ◌^◌, [], length, vec_len, All, IfOk, OnOk};
+ghost use Rattle.std.specs.Prelude.{◌≡◌, ◌<◌, ◌≤◌, ◌+◌, ◌^◌, [], length, map, vec_len, All, IfOk, OnOk};
 ghost use Rattle.sc_solver.specs.Clauses.{IsWithin};
 ghost use Rattle.sc_solver.specs.SearchView.{IsTaken};
 ghost use Rattle.sc_theory.specs.Equality.{takes_literal};
 
 use crate::{Answer, PLit, Solver};
-use sc_theory::{Equality, EqualityLit};
+use sc_theory::{Equality, EqualityLit, Theory};
 use std::alloc::{AllocError, Global};
 use std::process::Abort;
 use std::test::Fail;
 
-/// A clause of literals written as variables counted from 1, negative where they are to be false.
-fn clause_of(
+// The first two variables and their opposites, as literals.
+const FIRST: PLit = PLit { var: 0, plus: true };
+
+const NOT_FIRST: PLit = PLit {
+    var: 0,
+    plus: false,
+};
+
+const SECOND: PLit = PLit { var: 1, plus: true };
+
+const NOT_SECOND: PLit = PLit {
+    var: 1,
+    plus: false,
+};
+
+/// A solver for clauses over variables that are no atoms.
+fn plain_solver(
     rt: &impl Abort,
     alloc: Global,
     vars: u32,
-    signed: &[i32],
-) -> Result<Vec<PLit>, AllocError>
-    ensures { IfOk result (λ c. IsWithin vars c.items) }
+    clauses: &[Vec<PLit>],
+) -> Result<Solver<Equality>, AllocError>
+    requires vars { vars < 1000 }
+    requires within { All (λ c. IsWithin vars c.items) clauses.now }
+    ensures vars { IfOk result (λ s. s.vars ≡ vars) }
+    ensures clauses { IfOk result (λ s. s.clauses ≡ map (λ c. c.items) clauses.now) }
 {
-    let mut clause = Vec::new(alloc);
-    for number in signed {
-        let number = *number;
-        let plus = number > 0;
-        let magnitude = number.unsigned_abs();
-        assert!(rt; magnitude > 0);
-        let var = magnitude - 1;
-        assert!(rt; var < vars);
-        clause.push(PLit { var, plus })?;
-    }
-    Ok(clause)
+    assert!(rt; clauses.len() < 1000);
+    let atoms = vec![in alloc; None; vars as usize]?;
+    let theory = Equality::new(alloc, 1, &[], vars as usize)?;
+    Solver::new(alloc, vars, clauses, atoms, theory)
 }
 
-/// Adds each clause, and checks that no memory was wanted.
-fn add_all(
+/// A solver of no clauses over a plain variable and the equality of two terms that are fixed.
+fn fixed_solver(alloc: Global) -> Result<Solver<Equality>, AllocError>
+    ensures vars { IfOk result (λ s. s.vars ≡ 2) }
+    ensures clauses { IfOk result (λ s. s.clauses ≡ []) }
+{
+    let atom = Some((EqualityLit::Same(0, 1), EqualityLit::Differ(0, 1)));
+    let atoms = [None, atom].to_vec(alloc)?;
+    let theory = Equality::new(alloc, 2, &[0, 1], 2)?;
+    Solver::new(alloc, 2, &[], atoms, theory)
+}
+
+/// A solver of three plain variables and the three equalities of three terms.
+fn triangle_solver(
     rt: &impl Abort,
     alloc: Global,
-    vars: u32,
-    solver: &mut Solver<Equality>,
-    clauses: &[&[i32]],
-) -> Result<(), AllocError>
-    requires vars { solver.old.vars ≡ vars }
+    clauses: &[Vec<PLit>],
+) -> Result<Solver<Equality>, AllocError>
+    requires { All (λ c. IsWithin 6 c.items) clauses.now }
+{
+    assert!(rt; clauses.len() < 1000);
+    let atoms = [
+        None,
+        None,
+        None,
+        Some((EqualityLit::Same(0, 1), EqualityLit::Differ(0, 1))),
+        Some((EqualityLit::Same(1, 2), EqualityLit::Differ(1, 2))),
+        Some((EqualityLit::Same(0, 2), EqualityLit::Differ(0, 2))),
+    ]
+    .to_vec(alloc)?;
+    let theory = Equality::new(alloc, 3, &[], 6)?;
+    Solver::new(alloc, 6, clauses, atoms, theory)
+}
+
+/// What the solver answers. The solver is dropped by a call, since a drop where a scope ends is
+/// proved anew for each vector in it.
+fn answer(mut solver: Solver<Equality>) -> Answer {
+    let answer = solver.search();
+    drop(solver);
+    answer
+}
+
+/// Adds each clause.
+fn add_each<T: Theory>(solver: &mut Solver<T>, clauses: &[&[PLit]]) -> Result<(), AllocError>
+    requires within { All (λ c. IsWithin solver.old.vars c.now) clauses.now }
     requires few { length solver.old.clauses + length clauses.now < 2000000000 }
-    ensures vars { solver.new.vars ≡ vars }
+    ensures vars { solver.new.vars ≡ solver.old.vars }
     ensures count { OnOk result (length solver.new.clauses ≡ length solver.old.clauses + length clauses.now) }
 {
-    for signed in clauses {
-        let clause = clause_of(rt, alloc, vars, signed)?;
-        solver.add_clause(clause.as_slice())?;
+    for clause in clauses {
+        solver.add_clause(clause)?;
     }
     Ok(())
 }
 
-/// A solver without atoms.
-fn plain_solver(alloc: Global, vars: u32) -> Result<Solver<Equality>, AllocError>
-    requires { vars < 1000 }
-    ensures vars { IfOk result (λ s. s.vars ≡ vars) }
-    ensures clauses { IfOk result (λ s. s.clauses ≡ []) }
+/// What the solver answers once it has some more clauses. It is given away before the first `?`,
+/// which would drop it where it stands.
+fn answer_with(mut solver: Solver<Equality>, clauses: &[&[PLit]]) -> Result<Answer, AllocError>
+    requires within { All (λ c. IsWithin solver.vars c.now) clauses.now }
+    requires few { length solver.clauses + length clauses.now < 2000000000 }
 {
-    let theory = Equality::new(alloc, 1, &[], vars as usize)?;
-    let atoms = vec![in alloc; None; vars as usize]?;
-    Solver::new(alloc, vars, &[], atoms, theory)
+    let added = add_each(&mut solver, clauses);
+    let answer = answer(solver);
+    added?;
+    Ok(answer)
+}
+
+/// The value of a literal where the solver finds an assignment.
+fn value_found<T: Theory>(solver: &mut Solver<T>, literal: PLit) -> Option<bool>
+    requires { literal.var < solver.old.vars }
+    ensures vars { solver.new.vars ≡ solver.old.vars }
+    ensures clauses { solver.new.clauses ≡ solver.old.clauses }
+{
+    match solver.search() {
+        Answer::Sat => Some(solver.value_of(literal)),
+        Answer::Unsat => None,
+    }
+}
+
+/// Adds some clauses and then the empty one, and gives the value of a literal between.
+fn value_before_the_empty_clause<T: Theory>(
+    solver: &mut Solver<T>,
+    clauses: &[&[PLit]],
+    literal: PLit,
+) -> Result<Option<bool>, AllocError>
+    requires within { All (λ c. IsWithin solver.old.vars c.now) clauses.now }
+    requires few { length solver.old.clauses + length clauses.now < 1000 }
+    requires variable { literal.var < solver.old.vars }
+{
+    add_each(solver, clauses)?;
+    let value = value_found(solver, literal);
+    solver.add_clause(&[])?;
+    Ok(value)
 }
 
 #[test]
 fn no_clauses_are_met(rt: HostRuntime) -> Result<(), Fail> {
-    let mut solver = plain_solver(rt.alloc(), 0)?;
-    assert_eq!(rt; solver.search(), Answer::Sat);
+    let solver = plain_solver(&rt, rt.alloc(), 0, &[])?;
+    assert_eq!(rt; answer(solver), Answer::Sat);
     Ok(())
 }
 
 #[test]
 fn a_literal_and_its_opposite_are_not_met(rt: HostRuntime) -> Result<(), Fail> {
-    let mut solver = plain_solver(rt.alloc(), 1)?;
-    add_all(&rt, rt.alloc(), 1, &mut solver, &[&[1], &[-1]])?;
-    assert_eq!(rt; solver.search(), Answer::Unsat);
+    let clauses: [&[PLit]; 2] = [&[FIRST], &[NOT_FIRST]];
+    let solver = plain_solver(&rt, rt.alloc(), 1, &[])?;
+    let answer = answer_with(solver, clauses.as_slice())?;
+    assert_eq!(rt; answer, Answer::Unsat);
     Ok(())
 }
 
 #[test]
 fn an_atom_of_terms_that_are_fixed_is_false(rt: HostRuntime) -> Result<(), Fail> {
-    let theory = Equality::new(rt.alloc(), 2, &[0, 1], 2)?;
-    let atom = Some((EqualityLit::Same(0, 1), EqualityLit::Differ(0, 1)));
-    let atoms = [None, atom].to_vec(rt.alloc())?;
-    let mut solver = Solver::new(rt.alloc(), 2, &[], atoms, theory)?;
-    add_all(&rt, rt.alloc(), 2, &mut solver, &[&[1, 2], &[-1, 2]])?;
-    assert_eq!(rt; solver.search(), Answer::Unsat);
+    let clauses: [&[PLit]; 2] = [&[FIRST, SECOND], &[NOT_FIRST, SECOND]];
+    let solver = fixed_solver(rt.alloc())?;
+    let answer = answer_with(solver, clauses.as_slice())?;
+    assert_eq!(rt; answer, Answer::Unsat);
     Ok(())
 }
 
 #[test]
 fn the_empty_clause_is_not_met_after_an_assignment_was(rt: HostRuntime) -> Result<(), Fail> {
-    let mut solver = plain_solver(rt.alloc(), 2)?;
-    add_all(&rt, rt.alloc(), 2, &mut solver, &[&[1, -2], &[-1]])?;
-    assert_eq!(rt; solver.search(), Answer::Sat);
-    assert!(rt;
-        solver.value_of(PLit {
-            var: 1,
-            plus: false
-        })
-    );
-    solver.add_clause(&[])?;
-    assert_eq!(rt; solver.search(), Answer::Unsat);
+    let clauses: [&[PLit]; 2] = [&[FIRST, NOT_SECOND], &[NOT_FIRST]];
+    let mut solver = plain_solver(&rt, rt.alloc(), 2, &[])?;
+    let value = value_before_the_empty_clause(&mut solver, clauses.as_slice(), NOT_SECOND);
+    let answer = answer(solver);
+    assert_eq!(rt; value?, Some(true));
+    assert_eq!(rt; answer, Answer::Unsat);
     Ok(())
 }
 
@@ -156,44 +224,6 @@ impl Random {
     }
 }
 
-/// A solver for clauses without atoms.
-fn solver_for(
-    rt: &impl Abort,
-    alloc: Global,
-    vars: u32,
-    clauses: &[Vec<PLit>],
-) -> Result<Solver<Equality>, AllocError>
-    requires vars { vars < 1000 }
-    requires within { All (λ c. IsWithin vars c.items) clauses.now }
-{
-    assert!(rt; clauses.len() < 1000);
-    let theory = Equality::new(alloc, 1, &[], vars as usize)?;
-    let atoms = vec![in alloc; None; vars as usize]?;
-    Solver::new(alloc, vars, clauses, atoms, theory)
-}
-
-/// A solver of three plain variables and the three equalities of three terms.
-fn triangle_solver(
-    rt: &impl Abort,
-    alloc: Global,
-    clauses: &[Vec<PLit>],
-) -> Result<Solver<Equality>, AllocError>
-    requires { All (λ c. IsWithin 6 c.items) clauses.now }
-{
-    assert!(rt; clauses.len() < 1000);
-    let theory = Equality::new(alloc, 3, &[], 6)?;
-    let atoms = [
-        None,
-        None,
-        None,
-        Some((EqualityLit::Same(0, 1), EqualityLit::Differ(0, 1))),
-        Some((EqualityLit::Same(1, 2), EqualityLit::Differ(1, 2))),
-        Some((EqualityLit::Same(0, 2), EqualityLit::Differ(0, 2))),
-    ]
-    .to_vec(alloc)?;
-    Solver::new(alloc, 6, clauses, atoms, theory)
-}
-
 /// Whether these values meet each clause.
 fn is_met(clauses: &[Vec<PLit>], values: &[bool]) -> bool {
     clauses.iter().all(|clause| {
@@ -230,73 +260,101 @@ fn answers_are_those_of_a_search_of_all_assignments(rt: HostRuntime) -> Result<(
     let mut random = Random(7);
     for round in 0..60u32 {
         let clauses = random.clauses(rt.alloc(), 6, 6 + round % 9, 1)?;
-        let mut solver = triangle_solver(&rt, rt.alloc(), clauses.as_slice())?;
+        let solver = triangle_solver(&rt, rt.alloc(), clauses.as_slice())?;
         let met = is_met_by_some(clauses.as_slice());
-        assert_eq!(rt; solver.search() == Answer::Sat, met, "in round {round}");
+        assert_eq!(rt; answer(solver) == Answer::Sat, met, "in round {round}");
     }
     Ok(())
 }
 
-/// Puts no two of five pigeons into one of four holes: variable `4 * p + h` puts pigeon p into hole
-/// h, and `y` is one of these.
-fn keep_apart(alloc: Global, y: u32, clauses: &mut Vec<Vec<PLit>>) -> Result<(), AllocError>
-    requires variable { y < 20 }
+/// One of five pigeons is in one of four holes.
+fn inside(pigeon: u32, hole: u32) -> PLit
+    requires pigeon { pigeon < 5 }
+    requires hole { hole < 4 }
+    ensures { result.var < 20 }
+{
+    PLit {
+        var: 4 * pigeon + hole,
+        plus: true,
+    }
+}
+
+/// The pigeon is not in the hole.
+fn outside(pigeon: u32, hole: u32) -> PLit
+    requires pigeon { pigeon < 5 }
+    requires hole { hole < 4 }
+    ensures { result.var < 20 }
+{
+    PLit {
+        var: 4 * pigeon + hole,
+        plus: false,
+    }
+}
+
+/// Gives each hole to at most one of two pigeons.
+fn keep_apart(
+    alloc: Global,
+    pigeon: u32,
+    other: u32,
+    clauses: &mut Vec<Vec<PLit>>,
+) -> Result<(), AllocError>
+    requires pigeon { pigeon < 5 }
+    requires other { other < 5 }
     requires within { All (λ c. IsWithin 20 c.items) clauses.old.items }
     ensures { All (λ c. IsWithin 20 c.items) clauses.new.items }
 {
-    for x in 0..y {
-        if x % 4 == y % 4 {
-            let pair = [
-                PLit {
-                    var: x,
-                    plus: false,
-                },
-                PLit {
-                    var: y,
-                    plus: false,
-                },
-            ];
-            clauses.push(pair.to_vec(alloc)?)?;
-        }
+    for hole in 0..4 {
+        let pair = [outside(pigeon, hole), outside(other, hole)];
+        clauses.push(pair.to_vec(alloc)?)?;
     }
     Ok(())
 }
 
-/// Gives pigeon p a hole.
-fn somewhere(alloc: Global, p: u32) -> Result<Vec<PLit>, AllocError>
-    requires { p < 5 }
-    ensures { IfOk result (λ c. IsWithin 20 c.items) }
+/// Gives a pigeon a hole that none of those before it has.
+fn add_pigeon(alloc: Global, pigeon: u32, clauses: &mut Vec<Vec<PLit>>) -> Result<(), AllocError>
+    requires pigeon { pigeon < 5 }
+    requires within { All (λ c. IsWithin 20 c.items) clauses.old.items }
+    ensures { All (λ c. IsWithin 20 c.items) clauses.new.items }
 {
-    let mut clause = Vec::new(alloc);
-    for h in 0..4 {
-        clause.push(PLit {
-            var: 4 * p + h,
-            plus: true,
-        })?;
+    let somewhere = [
+        inside(pigeon, 0),
+        inside(pigeon, 1),
+        inside(pigeon, 2),
+        inside(pigeon, 3),
+    ];
+    clauses.push(somewhere.to_vec(alloc)?)?;
+    for other in 0..pigeon {
+        keep_apart(alloc, pigeon, other, clauses)?;
     }
-    Ok(clause)
+    Ok(())
 }
 
 #[test]
 fn five_pigeons_have_no_room_in_four_holes(rt: HostRuntime) -> Result<(), Fail> {
     let mut clauses = Vec::new(rt.alloc());
-    for y in 0..20 {
-        keep_apart(rt.alloc(), y, &mut clauses)?;
-        if y % 4 == 0 {
-            clauses.push(somewhere(rt.alloc(), y / 4)?)?;
-        }
+    for pigeon in 0..5 {
+        add_pigeon(rt.alloc(), pigeon, &mut clauses)?;
     }
-    let mut solver = solver_for(&rt, rt.alloc(), 20, clauses.as_slice())?;
-    assert_eq!(rt; solver.search(), Answer::Unsat);
+    let solver = plain_solver(&rt, rt.alloc(), 20, clauses.as_slice())?;
+    assert_eq!(rt; answer(solver), Answer::Unsat);
     Ok(())
+}
+
+/// What the solver answers for clauses of three literals over sixty variables.
+fn answer_at_random(
+    rt: &impl Abort,
+    alloc: Global,
+    seed: u64,
+    count: u32,
+) -> Result<Answer, AllocError> {
+    let clauses = Random(seed).clauses(alloc, 60, count, 3)?;
+    let solver = plain_solver(rt, alloc, 60, clauses.as_slice())?;
+    Ok(answer(solver))
 }
 
 #[test]
 fn random_clauses_of_sixty_variables_are_decided(rt: HostRuntime) -> Result<(), Fail> {
-    for (seed, count, want) in [(1, 258, Answer::Sat), (2, 270, Answer::Unsat)] {
-        let clauses = Random(seed).clauses(rt.alloc(), 60, count, 3)?;
-        let mut solver = solver_for(&rt, rt.alloc(), 60, clauses.as_slice())?;
-        assert_eq!(rt; solver.search(), want, "of {count} clauses");
-    }
+    assert_eq!(rt; answer_at_random(&rt, rt.alloc(), 1, 258)?, Answer::Sat);
+    assert_eq!(rt; answer_at_random(&rt, rt.alloc(), 2, 270)?, Answer::Unsat);
     Ok(())
 }
