@@ -8,7 +8,7 @@ mod mixed;
 mod random;
 mod worlds;
 
-use self::mixed::{Difference, Found, answer, clauses_of, mixed_solver};
+use self::mixed::{Difference, Found, clauses_of, last_answer, mixed_solver};
 use self::random::Random;
 use self::worlds::{World, is_met_by_some};
 use sc_solver::PLit;
@@ -28,8 +28,8 @@ fn decide(
     assert!(rt; plain < 100 && differences.len() < 100);
     let vars = plain + 3 + differences.len() as u32;
     let clauses = clauses_of(rt, alloc, vars, clauses)?;
-    let mut solver = mixed_solver(rt, alloc, plain, differences, clauses.as_slice())?;
-    Ok(answer(alloc, vars, &mut solver)?)
+    let solver = mixed_solver(rt, alloc, plain, differences, clauses.as_slice())?;
+    Ok(last_answer(alloc, vars, solver)?)
 }
 
 /// Differences that no three numbers meet together, since 0 <= x <= y <= x - 1 would follow.
@@ -160,14 +160,14 @@ fn answers_are_those_of_a_search_of_all_worlds(rt: HostRuntime) -> Result<(), Fa
             random.difference(),
         ];
         let clauses = random.clauses(rt.alloc(), 10, 5 + round % 12)?;
-        let mut solver = mixed_solver(
+        let solver = mixed_solver(
             &rt,
             rt.alloc(),
             3,
             differences.as_slice(),
             clauses.as_slice(),
         )?;
-        let found = answer(rt.alloc(), 10, &mut solver)?;
+        let found = last_answer(rt.alloc(), 10, solver)?;
         let want = is_met_by_some(differences.as_slice(), clauses.as_slice());
         assert_eq!(rt; found.is_some(), want, "in round {round}");
         if let Some(found) = &found {

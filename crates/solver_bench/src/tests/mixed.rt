@@ -128,7 +128,7 @@ pub fn mixed_solver(
 }
 
 /// What a solver finds: the value of each variable and a model, or that there is none.
-pub fn answer<T: Theory>(
+fn answer<T: Theory>(
     alloc: Global,
     vars: u32,
     solver: &mut Solver<T>,
@@ -184,4 +184,18 @@ pub fn clauses_of(
         clauses.push(clause_of(rt, alloc, vars, numbers)?)?;
     }
     Ok(clauses)
+}
+
+/// The same of a solver that is done with. It is dropped by a call, since a drop where a scope ends, or
+/// at a `?`, is proved anew for each vector in it.
+pub fn last_answer(
+    alloc: Global,
+    vars: u32,
+    mut solver: Solver<Mixed>,
+) -> Result<Option<Found>, AllocError>
+    requires { solver.vars ≡ vars }
+{
+    let found = answer(alloc, vars, &mut solver);
+    drop(solver);
+    found
 }
