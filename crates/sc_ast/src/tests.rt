@@ -1,3 +1,5 @@
+//! Names and texts at their limits.
+
 use crate::{Name, Txt};
 use std::alloc::Global;
 use std::test::Fail;

@@ -1,10 +1,15 @@
 //! Text values.
 
-ghost use Rattle.std.specs.Prelude.{◌≡◌, IfOk};
+ghost use Rattle.std.specs.Prelude.{◌≡◌, nat_eq, IfOk};
+ghost use Rattle.std.specs.Cmp.Lexicographic.{pointwise};
+ghost use Rattle.std.specs.Cmp.Rules.{comparing, hashing};
+ghost use Rattle.std.specs.Hash as fed;
 ghost use Rattle.std.specs.Option.{SomeIff};
+ghost use Rattle.std.proofs.Common.{rules};
 ghost use Rattle.sc_ast.specs.Words.{IsText};
 
 use std::alloc::{AllocError, Global};
+use std::hash::{Hash, Hasher};
 use std::marker::Model;
 
 /// How many bytes a text has at most.
@@ -56,5 +61,29 @@ impl Txt {
     {
         let bytes = Vec::from_slice(alloc, self.bytes.as_slice())?;
         Ok(Txt { bytes })
+    }
+}
+
+impl PartialEq for Txt {
+    ghost eq = { pointwise nat_eq };
+
+    ghost laws = { Prim.search (comparing, rules) };
+
+    fn eq(&self, other: &Txt) -> bool {
+        self.bytes.as_slice() == other.bytes.as_slice()
+    }
+}
+
+impl Eq for Txt {
+    ghost laws = { Prim.search (comparing, rules) };
+}
+
+impl Hash for Txt {
+    ghost hash_input = { fed.slice fed.u8 };
+
+    ghost respects_eq = { Prim.search (hashing, rules) };
+
+    fn hash<H: Hasher>(&self, state: &mut H) {
+        self.bytes.as_slice().hash(state);
     }
 }

@@ -61,9 +61,6 @@ abbrev pub FindsFirst : (Obligation → Bool) → List Obligation → Option Obl
 FindsFirst test os None = list_any test os ≡ false
 FindsFirst test os (Some o) = Found test os o
 
-finds-nothing : (test : Obligation → Bool) → FindsFirst test [] None
-finds-nothing test = refl
-
 finds-append : (test : Obligation → Bool) (xs ys : List Obligation) (p q : Option Obligation) → FindsFirst test xs p → FindsFirst test ys q → FindsFirst test (xs ++ ys) (or_else p q)
 finds-append test xs ys None None f g = list_any-append test xs ys f ∙ g
 finds-append test xs ys None (Some o) f g = record {

@@ -21,15 +21,21 @@ pub data Value : Type 0 where
 -- true and false, the whole numbers of 64 bits, and UTF-8 of at most 4,096 bytes
 abbrev pub IsValueOf : Ty → Value → Type 0
 IsValueOf (Plain (base.Bool at)) (Flag b) = Unit {0}
+IsValueOf (Plain (base.Bool at)) (Num n) = ⊥
+IsValueOf (Plain (base.Bool at)) (Str bytes) = ⊥
+IsValueOf (Plain (base.Int at)) (Flag b) = ⊥
 IsValueOf (Plain (base.Int at)) (Num n) = FitsSigned w64 n
+IsValueOf (Plain (base.Int at)) (Str bytes) = ⊥
+IsValueOf (Plain (base.Text at)) (Flag b) = ⊥
+IsValueOf (Plain (base.Text at)) (Num n) = ⊥
 IsValueOf (Plain (base.Text at)) (Str bytes) = IsText bytes
-IsValueOf _ _ = ⊥
 
 -- one value of its type per field, in the order of the fields
 abbrev pub IsRow : List FieldDef → List Value → Type 0
 IsRow [] [] = Unit {0}
 IsRow (f ∷ fields) (v ∷ values) = IsValueOf f.ty v × IsRow fields values
-IsRow _ _ = ⊥
+IsRow [] (v ∷ values) = ⊥
+IsRow (f ∷ fields) [] = ⊥
 
 pub record Record : Type 0 where
   pub id : ℕ
@@ -57,7 +63,8 @@ Database = List Table
 abbrev pub AreTablesOf : List ModelDef → Database → Type 0
 AreTablesOf [] [] = Unit {0}
 AreTablesOf (m ∷ models) (t ∷ tables) = IsTableOf m t × AreTablesOf models tables
-AreTablesOf _ _ = ⊥
+AreTablesOf [] (t ∷ tables) = ⊥
+AreTablesOf (m ∷ models) [] = ⊥
 
 -- No field of these types holds an id, so no reference can dangle.
 abbrev pub IsDatabase : Spec → Database → Type 0

@@ -1,4 +1,4 @@
-//! What a policy allows, and which policy is in force.
+//! What a policy allows a static principal, and what has a name: statics, models and fields.
 
 ghost use Rattle.std.specs.Prelude.{◌≡◌};
 ghost use Rattle.std.specs.Option.{option_copied};
@@ -68,7 +68,8 @@ fn field_among<'s>(fields: &'s [FieldDef], name: &[u8]) -> Option<&'s FieldDef>
 
 /// The field of that name of the model of that name.
 pub fn field_of<'s>(s: &'s Spec, model: &[u8], field: &[u8]) -> Option<&'s FieldDef>
-    ensures { option_copied result ≡ spec.field_of s.now (record { model = model.now; field = field.now }) }
+    ensures { option_copied result ≡ spec.field_of s.now
+        (record { model = model.now; field = field.now }) }
 {
     let model = model_among(s.models.as_slice(), model)?;
     field_among(model.fields.as_slice(), field)

@@ -46,7 +46,8 @@ fn is_on(model: &[u8], field: &[u8], command: &Command) -> bool
 
 /// The policy of the specification for the right.
 fn first_policy<'s>(s: &'s Spec, model: &[u8], field: &[u8], right: Right) -> Option<&'s Policy>
-    ensures { option_copied result ≡ first_policy s.now (record { model = model.now; field = field.now }) right }
+    ensures { option_copied result ≡ first_policy s.now
+        (record { model = model.now; field = field.now }) right }
 {
     let found = field_of(s, model, field)?;
     Some(right_of(right, found))
@@ -60,7 +61,8 @@ fn policy_after<'s>(
     field: &[u8],
     right: Right,
 ) -> Option<&'s Policy>
-    ensures { option_copied result ≡ policy_after (record { model = model.now; field = field.now }) right (option_copied before.entry) command.now }
+    ensures { option_copied result ≡ policy_after
+        (record { model = model.now; field = field.now }) right (option_copied before.entry) command.now }
 {
     if !is_on(model, field, command) {
         return before;
@@ -79,7 +81,9 @@ fn policy_in_force<'s>(
     field: &[u8],
     right: Right,
 ) -> Option<&'s Policy>
-    ensures { option_copied result ≡ fold (policy_after (record { model = model.now; field = field.now }) right) (first_policy s.now (record { model = model.now; field = field.now }) right) commands.now }
+    ensures { option_copied result ≡ fold
+        (policy_after (record { model = model.now; field = field.now }) right)
+        (first_policy s.now (record { model = model.now; field = field.now }) right) commands.now }
 {
     let mut policy = first_policy(s, model, field, right);
     for command in commands {
@@ -109,7 +113,8 @@ fn first_to_gain<'s>(
     after: &Policy,
     statics: &'s [StaticDef],
 ) -> Option<&'s StaticDef>
-    ensures { option_copied result ≡ find (λ static. gains (option_copied before.entry) (Some after.now) static.name) statics.now }
+    ensures { option_copied result ≡ find
+        (λ static. gains (option_copied before.entry) (Some after.now) static.name) statics.now }
 {
     statics
         .iter()
@@ -141,7 +146,8 @@ fn leak_to(
     kind: &StaticDef,
 ) -> Result<Leak, AllocError>
     requires { at < 256 }
-    ensures { IfOk result (λ leak. obligation_of leak ≡ obligation_at at command.now right kind.now) }
+    ensures { IfOk result (λ leak. obligation_of leak
+        ≡ obligation_at at command.now right kind.now) }
 {
     let Command::UpdateFieldPolicy(model, field, _, _, _, _) = command;
     Ok(Leak {
@@ -165,7 +171,8 @@ fn right_leak(
 ) -> Result<Option<Leak>, AllocError>
     requires within { at < length commands.now }
     requires few { length commands.now ≤ 256 }
-    ensures { IfOk result (λ found. option_map obligation_of found ≡ spec.first_of_right s.now commands.now at command.now right) }
+    ensures { IfOk result (λ found. option_map obligation_of found
+        ≡ spec.first_of_right s.now commands.now at command.now right) }
 {
     match first_kind(s, &commands[..at], command, right) {
         None => Ok(None),
@@ -184,7 +191,8 @@ fn command_leak(
 ) -> Result<Option<Leak>, AllocError>
     requires within { at < length commands.now }
     requires few { length commands.now ≤ 256 }
-    ensures { IfOk result (λ found. option_map obligation_of found ≡ spec.first_of_command s.now commands.now at command.now) }
+    ensures { IfOk result (λ found. option_map obligation_of found
+        ≡ spec.first_of_command s.now commands.now at command.now) }
 {
     match right_leak(alloc, s, commands, at, command, Right::Read)? {
         Some(leak) => Ok(Some(leak)),
@@ -195,7 +203,8 @@ fn command_leak(
 /// The first leak of the commands.
 fn first_leak(alloc: Global, s: &Spec, commands: &[Command]) -> Result<Option<Leak>, AllocError>
     requires { length commands.now ≤ 256 }
-    ensures { IfOk result (λ found. option_map obligation_of found ≡ spec.first_from s.now commands.now 0 commands.now) }
+    ensures { IfOk result (λ found. option_map obligation_of found
+        ≡ spec.first_from s.now commands.now 0 commands.now) }
 {
     for (at, command) in commands.iter().enumerate() {
         let found = command_leak(alloc, s, commands, at, command)?;
@@ -208,7 +217,8 @@ fn first_leak(alloc: Global, s: &Spec, commands: &[Command]) -> Result<Option<Le
 
 /// How many rights the command gives.
 fn rights_given(command: &Command) -> u64
-    ensures counted { result ≡ count_by (λ right. is_some (access.given right command.now)) (Read ∷ Write ∷ []) }
+    ensures counted { result ≡ count_by
+        (λ right. is_some (access.given right command.now)) (Read ∷ Write ∷ []) }
     ensures few { result ≤ 2 }
 {
     u64::from(given(Right::Read, command).is_some())
@@ -218,7 +228,8 @@ fn rights_given(command: &Command) -> u64
 /// How many rights the commands give.
 fn all_rights_given(commands: &[Command]) -> u64
     requires { length commands.now ≤ 256 }
-    ensures counted { result ≡ sum_by (λ command. count_by (λ right. is_some (access.given right command)) (Read ∷ Write ∷ [])) commands.now }
+    ensures counted { result ≡ sum_by (λ command. count_by
+        (λ right. is_some (access.given right command)) (Read ∷ Write ∷ [])) commands.now }
     ensures few { result ≤ 512 }
 {
     let mut total = 0;

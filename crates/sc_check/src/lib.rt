@@ -8,9 +8,9 @@
 //! |---|---|
 //! | `small` | the test whether a specification and a script are in the part of the language that can be checked |
 //! | `named` | what has a name, and the test whether the names of some differ |
-//! | `access` | what a policy allows a static principal, and the policy in force |
+//! | `access` | what a policy allows a static principal; the statics, models and fields by their names |
 //! | `outcome` | `Outcome`, `Leak` and `Right` |
-//! | `check` | `check_script` |
+//! | `check` | the policy in force, and `check_script` |
 #![tactic(auto)]
 
 mod access;

@@ -1,3 +1,5 @@
+//! Worked rows of the check.
+
 use crate::{Leak, Outcome, Right, check_script, is_small_script, is_small_spec};
 use sc_ast::{
     Base, Command, FieldDef, Item, ModelDef, Name, Policy, Script, SetExpr, Spec, StaticDef, Ty,

@@ -1,12 +1,7 @@
 -- What a sink tells over several calls.
-use Rattle.std.proofs.Common.{◌≡◌, ℕ, ◌+◌, ◌-◌, ◌≤◌, List, [], ◌++◌, length, take, drop, take_all, Option, None, Some, sym, ap, ◌∙◌, append_assoc, append-nil, subst, arith, length-drop}
+use Rattle.std.proofs.Common.{◌≡◌, ℕ, ◌+◌, ◌-◌, List, ◌++◌, length, take, drop, take_all, Option, None, Some, sym, ap, ◌∙◌, append_assoc, subst, arith, length-drop}
 use Rattle.std.proofs.Math.Seq.{take-add}
 use Rattle.sc_flow.specs.Told.{Appends}
-
--- no byte was put
-pub Appends-nil : (a : Option (List ℕ)) → Appends a a []
-Appends-nil None = tt
-Appends-nil (Some bytes) = sym (append-nil bytes)
 
 -- one call after the other appends the one's bytes and then the other's
 pub Appends-then : (a b c : Option (List ℕ)) (first second : List ℕ) → Appends a b first → Appends b c second → Appends a c (first ++ second)
@@ -24,7 +19,3 @@ pub Appends-more : (a b c : Option (List ℕ)) (piece : List ℕ) (n m : ℕ) �
 Appends-more a b c piece n m p q =
     let rest = subst (λ l. Appends b c (take m l)) (rest_slice piece n) q in
     subst (Appends a c) (sym (take-add n m piece)) (Appends-then a b c _ _ p rest)
-
--- the whole piece, once no byte of it is left
-pub Appends-whole : (a b : Option (List ℕ)) (piece : List ℕ) (n : ℕ) → length piece ≤ n → Appends a b (take n piece) → Appends a b piece
-Appends-whole a b piece n h p = subst (Appends a b) (take_all n piece h) p

@@ -2,8 +2,10 @@
 use Rattle.std.specs.Prelude.{◌≡◌, ℕ, List, ⊤, Option, Some, None, IsSomeAnd, Result, Ok, Err}
 use Rattle.std.specs.declared.io.Error.{Error}
 use Rattle.std.specs.declared.io.ErrorKind.{ErrorKind}
-use Rattle.std.specs.declared.io.ErrorKind.TheVariants.{NotFound, NotADirectory, IsADirectory}
+use Rattle.std.specs.declared.io.ErrorKind.TheVariants.{NotFound, NotADirectory, IsADirectory, OutOfMemory}
 use Rattle.std.specs.IoError.{error_kind}
+use Rattle.sc_flow.specs.declared.outside.ShelfErr.{ShelfErr}
+use Rattle.sc_flow.specs.declared.outside.ShelfErr.TheVariants as shelf
 
 -- failures that say that a name stands for no file
 abbrev pub IsAbsence : ErrorKind → Type 0
@@ -16,3 +18,8 @@ IsAbsence _ = ⊥
 abbrev pub IsOpened : {F : Type 0} → (F → Option (List ℕ)) → Option (List ℕ) → Result F Error → Type 0
 IsOpened remaining file (Ok reader) = IsSomeAnd file (λ bytes. remaining reader ≡ Some bytes)
 IsOpened remaining file (Err error) = IsAbsence (error_kind error) → file ≡ None
+
+-- what any other failure of the system is to a fetch
+abbrev pub fetch_error : ErrorKind → ShelfErr
+fetch_error OutOfMemory = shelf.OutOfMemory
+fetch_error _ = shelf.Failed

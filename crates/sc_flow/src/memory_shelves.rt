@@ -127,7 +127,7 @@ impl Shelf for MemShelf {
             self.faults = self.faults.saturating_add(1);
             return Err(ShelfErr::Failed);
         }
-        found(alloc, file_bytes(&self.files, name), limit).map_err(|_| ShelfErr::OutOfMemory)
+        Ok(found(alloc, file_bytes(&self.files, name), limit)?)
     }
 }
 
@@ -168,11 +168,11 @@ impl Shelf for SureShelf {
         ensures sure { result ≢ Err ShelfErr.Failed }
         ensures kept { self.new ≡ self.old }
     {
-        found(alloc, file_bytes(&self.files, name), limit).map_err(|_| ShelfErr::OutOfMemory)
+        Ok(found(alloc, file_bytes(&self.files, name), limit)?)
     }
 }
 
-// The bytes of the first file of that name.
+/// The bytes of the first file of that name.
 fn file_bytes<'a>(files: &'a [MemFile], name: &[u8]) -> Option<&'a [u8]>
     ensures { option_copied result ≡ files_of files.now name.now }
 {
@@ -182,7 +182,7 @@ fn file_bytes<'a>(files: &'a [MemFile], name: &[u8]) -> Option<&'a [u8]>
         .map(|file| file.bytes())
 }
 
-// What a fetch with this limit finds where a name stands for these bytes, or for none.
+/// What a fetch with this limit finds where a name stands for these bytes, or for none.
 fn found(alloc: Global, bytes: Option<&[u8]>, limit: usize) -> Result<Found, AllocError>
     ensures found { IfOk result (IsFound (option_copied bytes.entry) limit) }
     ensures within { IfOk result (IsWithin limit) }

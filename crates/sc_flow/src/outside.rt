@@ -3,8 +3,9 @@ ghost use Rattle.std.specs.Prelude.{◌≡◌, ℕ, ◌<◌, ◌≤◌, List, le
 ghost use Rattle.sc_flow.specs.Faults.{Rose};
 ghost use Rattle.sc_flow.specs.Files.{Files, IsFound, IsWithin};
 ghost use Rattle.sc_flow.specs.Told.{Appends, AppendsFront};
+ghost use Rattle.sc_flow.specs.declared.outside.ShelfErr.TheVariants.{OutOfMemory};
 
-use std::alloc::Global;
+use std::alloc::{AllocError, Global};
 use thiserror::Error;
 
 /// The outside object met a fault, which it counted.
@@ -21,6 +22,14 @@ pub enum ShelfErr {
     /// There was no memory for the bytes of the file.
     #[error("out of memory")]
     OutOfMemory,
+}
+
+impl From<AllocError> for ShelfErr {
+    ghost from_gives = { λ _ error. error ≡ OutOfMemory };
+
+    fn from(_error: AllocError) -> ShelfErr {
+        ShelfErr::OutOfMemory
+    }
 }
 
 /// What a shelf has under a name.

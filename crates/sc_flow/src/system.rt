@@ -3,7 +3,7 @@ ghost use Rattle.std.specs.Prelude.{◌≡◌, ◌<◌, ◌≤◌, ◌↔◌, �
 ghost use Rattle.std.specs.Io.KnownBytes.{WriteAppends, Keeps};
 ghost use Rattle.sc_flow.specs.Faults.{Rose, next_count};
 ghost use Rattle.sc_flow.specs.Files.{Files, IsFound, IsWithin};
-ghost use Rattle.sc_flow.specs.Folders.{IsAbsence, IsOpened};
+ghost use Rattle.sc_flow.specs.Folders.{IsAbsence, IsOpened, fetch_error};
 ghost use Rattle.sc_flow.specs.Shelves.{faults_after};
 
 use crate::outside::{Failed, Found, Shelf, ShelfErr, Sink};
@@ -71,7 +71,7 @@ impl<W: Write> Sink for StdSink<W> {
     }
 }
 
-// Writes some of the bytes, once more where a signal comes in between.
+/// Writes some of the bytes, once more where a signal comes in between.
 fn write_some<W: Write>(writer: &mut W, piece: &[u8]) -> io::Result<usize>
     ensures within { IfOk result (λ n. n ≤ length piece.now) }
     ensures written { WriteAppends (W.contents writer.old) (W.contents writer.new) result piece.now }
@@ -173,7 +173,7 @@ impl<D: Folder> Shelf for DirShelf<D> {
     }
 }
 
-// Opens and reads the file of this name.
+/// Opens and reads the file of this name.
 fn read_file<D: Folder>(
     alloc: Global,
     folder: &D,
@@ -189,11 +189,11 @@ fn read_file<D: Folder>(
     match folder.open_file(name) {
         Ok(file) => read_up_to(alloc, file, limit),
         Err(e) if is_absence(e.kind()) => Ok(Found::Missing),
-        Err(_) => Err(ShelfErr::Failed),
+        Err(e) => Err(cause_of(e.kind())),
     }
 }
 
-// Whether a failure says that the name stands for no file.
+/// Whether a failure says that the name stands for no file.
 fn is_absence(kind: ErrorKind) -> bool
     ensures { IsTrue result ↔ IsAbsence kind }
 {
@@ -203,7 +203,17 @@ fn is_absence(kind: ErrorKind) -> bool
     )
 }
 
-// Reads to the end, but no more than one byte above the limit.
+/// What a failure of the system is to a fetch: a want of memory is no fault of the shelf.
+fn cause_of(kind: ErrorKind) -> ShelfErr
+    ensures { result ≡ fetch_error kind }
+{
+    match kind {
+        ErrorKind::OutOfMemory => ShelfErr::OutOfMemory,
+        _ => ShelfErr::Failed,
+    }
+}
+
+/// Reads to the end, but no more than one byte above the limit.
 fn read_up_to<R: Read + Drop>(alloc: Global, file: R, limit: usize) -> Result<Found, ShelfErr>
     ensures found { IfOk result (λ found. IfSome (R.remaining file) (λ bytes. IsFound (Some bytes) limit found)) }
     ensures within { IfOk result (IsWithin limit) }
@@ -215,7 +225,6 @@ fn read_up_to<R: Read + Drop>(alloc: Global, file: R, limit: usize) -> Result<Fo
     {
         Ok(n) if n > limit => Ok(Found::TooLong),
         Ok(_) => Ok(Found::Bytes(bytes)),
-        Err(e) if e.kind() == ErrorKind::OutOfMemory => Err(ShelfErr::OutOfMemory),
-        Err(_) => Err(ShelfErr::Failed),
+        Err(e) => Err(cause_of(e.kind())),
     }
 }

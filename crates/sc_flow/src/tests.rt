@@ -1,4 +1,4 @@
-//! What no clause says: that calls succeed, what a user can state, and the real outside.
-mod composing;
+//! What no clause says: that calls succeed, and the real outside.
+
 mod in_memory;
 mod outside;

@@ -3,39 +3,53 @@ use Rattle.std.proofs.Common.{◌≡◌, ◌≢◌, ℕ, ◌+◌, ◌<◌, ◌�
 use Rattle.std.specs.Char.{is_ascii_uppercase, is_ascii_lowercase, is_ascii_digit}
 use Rattle.std.specs.List.{prefix_len}
 use Rattle.std.specs.Str.Parse.{digits_value}
-use Rattle.std.proofs.lemmas.Bool.{and_parts, not-true, eqb-true, leb-true, le-leb, cases_lt}
+use Rattle.std.proofs.lemmas.Bool.{false≢true, and_parts, not-true, eqb-true, leb-true, le-leb, cases_lt}
 use Rattle.std.proofs.lemmas.Bool.Decides.{nat_tests}
 use Rattle.std.proofs.lemmas.List.{get_or-take, length-take-le, take-append-drop, take_at}
 use Rattle.std.proofs.lemmas.List.Sums.{prefix_len-le-length}
 use Rattle.sc_lexer.specs.declared.front.Front.{Front}
-use Rattle.sc_lexer.specs.declared.syntax_err.Fault.{Fault}
+use Rattle.sc_lexer.specs.declared.lex_err.Fault.{Fault}
 use Rattle.sc_lexer.specs.declared.token.TokenKind.{TokenKind}
 use Rattle.sc_lexer.specs.declared.token.TokenKind.TheVariants.{Upper, Lower, Number, Text}
-use Rattle.sc_lexer.specs.Front.{front, found, word_front, number_front, is_number, literal_front, sign_front, one_byte_sign, two_byte_sign}
+use Rattle.sc_lexer.specs.Front.{front, found, fault, word_front, number_front, is_number, literal_front, sign_front, one_byte_sign, two_byte_sign}
 use Rattle.sc_lexer.specs.LiteralEnd.{closed, literal_from}
-use Rattle.sc_lexer.specs.Lexeme.{HasForm, IsWithinLimits, IsLexeme, has_needless_zero, is_run, is_word_byte, sign_of}
-use Rattle.sc_lexer.specs.Literal.{IsLiteral}
+use Rattle.sc_lexer.specs.Lexeme.{HasForm, IsWithinLimits, has_needless_zero, is_run, is_word_byte, sign_of}
+use Rattle.sc_lexer.specs.Literal.{IsLiteral, Writes}
+use Rattle.sc_lexer.specs.Refused.{IsLongest}
+use Rattle.sc_lexer.specs.declared.lex_err.Cause.TheVariants.{BadNumber, TooManyNameBytes}
+use Rattle.sc_lexer.specs.declared.limits.TheConstants.{LARGEST_NUMBER, MOST_NAME_BYTES, MOST_TEXT_BYTES}
 use Rattle.sc_lexer.proofs.Classes.{Class, upper, lower, digit, quote, sign, class_from, class_of, class_of_kind, class_of-form, form_upper, form_lower, form_digit, form_quote, form_sign}
-use Rattle.sc_lexer.proofs.Literals.{cond_found, literal_read, literal_found, IsFound}
+use Rattle.sc_lexer.proofs.Literals.{cond_found, literal_read, literal_found}
+use Rattle.sc_lexer.proofs.OneValue.{literal_only}
 use Rattle.sc_lexer.proofs.Runs.{list_all-take-prefix_len, prefix_len-most, prefix_len-positive, is_run-passes, is_run-take}
 use Rattle.sc_lexer.proofs.Signs.{bytes_of_sign, form_of_sign, limits_of_sign, one_byte_sign-is, two_byte_sign-is}
 
 -- no more bytes at the front have a form
-abbrev pub NoLonger : List ℕ → ℕ → Type 0
+abbrev NoLonger : List ℕ → ℕ → Type 0
 NoLonger text len = (kind : TokenKind) (more : ℕ) → len < more → more ≤ length text → ¬ (HasForm kind (take more text))
 
 -- the longest lexeme at the front
 pub record IsFront (text : List ℕ) (kind : TokenKind) (len : ℕ) : Type 0 where
-  pub positive : 0 < len
-  pub within : len ≤ length text
-  pub lexeme : IsLexeme (record { kind = kind; bytes = take len text })
-  pub longest : NoLonger text len
+  pub longest : IsLongest text kind len
+  pub limits : IsWithinLimits kind (take len text)
+
+pub form_some : (kind : TokenKind) (bytes : List ℕ) → HasForm kind bytes → 0 < length bytes
+form_some Upper [] h = absurd (cc)
+form_some Lower [] h = absurd (cc)
+form_some Number [] h = absurd (cc)
+form_some Text [] h = let clash = h.1.1 in absurd (cc)
+form_some _ [] h = absurd (cc)
+form_some _ (b ∷ rest) h = omega arith
+
+pub longest_some : (text : List ℕ) (kind : TokenKind) (len : ℕ) → IsLongest text kind len → 0 < len
+longest_some text kind len here =
+    omega (arith, form_some kind (take len text) here.form, length-take-le len text here.within)
 
 abbrev pub class_at : List ℕ → Class
 class_at text = class_of (slice_index text 0)
 
 -- what stands at the front has the class of the front's first byte
-class_at-form : (text : List ℕ) (kind : TokenKind) (len : ℕ) → 0 < len → HasForm kind (take len text) → class_at text ≡ class_of_kind kind
+pub class_at-form : (text : List ℕ) (kind : TokenKind) (len : ℕ) → 0 < len → HasForm kind (take len text) → class_at text ≡ class_of_kind kind
 class_at-form text kind len some h =
     let same : slice_index (take len text) 0 ≡ slice_index text 0 = get_or-take len text 0 0 some in
     ap class_of (sym same) ∙ class_of-form kind (take len text) h
@@ -57,26 +71,23 @@ module _ (first next : ℕ → Bool) (goes_on : (b : ℕ) → first b ≡ true �
       let positive = prefix_len-positive next text some (goes_on (slice_index text 0) h) in
       (positive, is_run-take first next text (prefix_len next text) positive some h (list_all-take-prefix_len next text))
 
-  run_front : (text : List ℕ) → class_at text ≡ class_of_kind kind → 0 < length text → first (slice_index text 0) ≡ true → IsWithinLimits kind (take (prefix_len next text) text) → IsFront text kind (prefix_len next text)
-  run_front text at some h limits =
-      let run = run_form text some h in
-      record {
-        positive = run.0;
-        within = prefix_len-le-length next text;
-        lexeme = record { form = form _ run.1; limits = limits };
-        longest = run_longest text at;
-      }
+  run_is : (text : List ℕ) → class_at text ≡ class_of_kind kind → 0 < length text → first (slice_index text 0) ≡ true → IsLongest text kind (prefix_len next text)
+  run_is text at some h = record {
+    within = prefix_len-le-length next text;
+    form = form _ (run_form text some h).1;
+    longest = run_longest text at;
+  }
 
   -- the longest run is the one that the reader counts
-  run_only : (text : List ℕ) (len : ℕ) → IsFront text kind len → first (slice_index text 0) ≡ true → prefix_len next text ≡ len
+  run_only : (text : List ℕ) (len : ℕ) → IsLongest text kind len → first (slice_index text 0) ≡ true → prefix_len next text ≡ len
   run_only text len here h = go (cases_lt len (prefix_len next text))
     where
       go : (len < prefix_len next text) ⊎ (prefix_len next text ≤ len) → prefix_len next text ≡ len
       go (inl less) =
-          let run = run_form text (omega (arith, here.positive, here.within)) h in
+          let run = run_form text (omega (arith, longest_some text kind len here, here.within)) h in
           absurd (here.longest kind (prefix_len next text) less (prefix_len-le-length next text) (form _ run.1))
       go (inr more) =
-          let run = runs kind (take len text) refl here.lexeme.form in
+          let run = runs kind (take len text) refl here.form in
           let most = prefix_len-most next text len here.within (is_run-passes first next goes_on (take len text) run) in
           omega (arith, most)
 
@@ -107,7 +118,7 @@ class_from-digit false false true q h = refl
 class_from-digit false false false true h = absurd (cc)
 class_from-digit false false false false h = absurd (cc)
 
-class_from-quote : (u l d q : Bool) → class_from u l d q ≡ quote → q ≡ true
+pub class_from-quote : (u l d q : Bool) → class_from u l d q ≡ quote → q ≡ true
 class_from-quote true l d q h = absurd (cc)
 class_from-quote false true d q h = absurd (cc)
 class_from-quote false false true q h = absurd (cc)
@@ -118,30 +129,68 @@ class_at-some : (text : List ℕ) (class : Class) → class_at text ≡ class �
 class_at-some [] class h other = absurd (other (sym h))
 class_at-some (b ∷ rest) class h other = omega arith
 
+-- ---- the longest words and numbers
+
+pub upper_is : (text : List ℕ) → class_at text ≡ upper → IsLongest text Upper (prefix_len is_word_byte text)
+upper_is text at =
+    run_is is_ascii_uppercase is_word_byte uppercase_goes_on Upper (λ _ r. r) form_upper text at (class_at-some text upper at (λ e. cc)) (class_from-upper _ _ _ _ at)
+
+pub lower_is : (text : List ℕ) → class_at text ≡ lower → IsLongest text Lower (prefix_len is_word_byte text)
+lower_is text at =
+    run_is is_ascii_lowercase is_word_byte lowercase_goes_on Lower (λ _ r. r) form_lower text at (class_at-some text lower at (λ e. cc)) (class_from-lower _ _ _ _ at)
+
+pub number_is : (text : List ℕ) → class_at text ≡ digit → IsLongest text Number (prefix_len is_ascii_digit text)
+number_is text at =
+    run_is is_ascii_digit is_ascii_digit (λ _ r. r) Number (λ _ r. r) form_digit text at (class_at-some text digit at (λ e. cc)) (class_from-digit _ _ _ _ at)
+
+pub upper_only : (text : List ℕ) (len : ℕ) → class_at text ≡ upper → IsLongest text Upper len → prefix_len is_word_byte text ≡ len
+upper_only text len at here =
+    run_only is_ascii_uppercase is_word_byte uppercase_goes_on Upper (λ _ r. r) form_upper text len here (class_from-upper _ _ _ _ at)
+
+pub lower_only : (text : List ℕ) (len : ℕ) → class_at text ≡ lower → IsLongest text Lower len → prefix_len is_word_byte text ≡ len
+lower_only text len at here =
+    run_only is_ascii_lowercase is_word_byte lowercase_goes_on Lower (λ _ r. r) form_lower text len here (class_from-lower _ _ _ _ at)
+
+pub number_only : (text : List ℕ) (len : ℕ) → class_at text ≡ digit → IsLongest text Number len → prefix_len is_ascii_digit text ≡ len
+number_only text len at here =
+    run_only is_ascii_digit is_ascii_digit (λ _ r. r) Number (λ _ r. r) form_digit text len here (class_from-digit _ _ _ _ at)
+
+-- ---- the tests of the limits
+
+pub short_word : (text : List ℕ) (len : ℕ) → len ≤ length text → leb len MOST_NAME_BYTES ≡ true → length (take len text) ≤ MOST_NAME_BYTES
+short_word text len within h = omega (arith, leb-true len MOST_NAME_BYTES h, length-take-le len text within)
+
+pub long_word : (text : List ℕ) (len : ℕ) → len ≤ length text → leb len MOST_NAME_BYTES ≡ false → ¬ (length (take len text) ≤ MOST_NAME_BYTES)
+long_word text len within h short =
+    false≢true (sym h ∙ le-leb len MOST_NAME_BYTES (omega (arith, length-take-le len text within)))
+
+pub good_number : (bytes : List ℕ) → is_number bytes ≡ true → IsWithinLimits Number bytes
+good_number bytes h =
+    let parts = and_parts (not (has_needless_zero bytes)) (leb (digits_value 10 bytes) LARGEST_NUMBER) h in
+    (not-true _ parts.0, leb-true _ LARGEST_NUMBER parts.1)
+
+pub number_within : (bytes : List ℕ) → IsWithinLimits Number bytes → is_number bytes ≡ true
+number_within bytes limits =
+    let small = le-leb (digits_value 10 bytes) LARGEST_NUMBER limits.1 in rw (limits.0, small) refl
+
 -- a front, found by its parts
-abbrev IsFrontOf : List ℕ → Front → Type 0
+abbrev pub IsFrontOf : List ℕ → Front → Type 0
 IsFrontOf text f = IsFront text f.kind f.len
 
 module _ (text : List ℕ) (f : Front) where
-  upper_found : class_at text ≡ upper → word_front Upper text ≡ Ok f → IsFrontOf text f
-  upper_found at h = elim (cond_found (leb (prefix_len is_word_byte text) 64) _ _ _ h) [
+  word_found : (kind : TokenKind) (len : ℕ) → IsLongest text kind len → (length (take len text) ≤ MOST_NAME_BYTES → IsWithinLimits kind (take len text)) → cond (leb len MOST_NAME_BYTES) (found kind len) (fault TooManyNameBytes 0) ≡ Ok f → IsFrontOf text f
+  word_found kind len here limits h = elim (cond_found (leb len MOST_NAME_BYTES) _ _ _ h) [
     | inl small ↦
-        let is : f ≡ record { kind = Upper; len = prefix_len is_word_byte text } = cc in
-        let some = class_at-some text upper at (λ e. cc) in
-        let limit : length (take (prefix_len is_word_byte text) text) ≤ 64 = omega (arith, leb-true _ 64 small.0, length-take-le _ text (prefix_len-le-length is_word_byte text)) in
-        rw is (run_front is_ascii_uppercase is_word_byte uppercase_goes_on Upper (λ _ r. r) form_upper text at some (class_from-upper _ _ _ _ at) limit)
+        let is : f ≡ record { kind = kind; len = len } = cc in
+        rw is (record { longest = here; limits = limits (short_word text len here.within small.0) })
     | inr large ↦ absurd (cc)
   ]
 
+  upper_found : class_at text ≡ upper → word_front Upper text ≡ Ok f → IsFrontOf text f
+  upper_found at h = word_found Upper (prefix_len is_word_byte text) (upper_is text at) (λ short. short) h
+
   lower_found : class_at text ≡ lower → word_front Lower text ≡ Ok f → IsFrontOf text f
-  lower_found at h = elim (cond_found (leb (prefix_len is_word_byte text) 64) _ _ _ h) [
-    | inl small ↦
-        let is : f ≡ record { kind = Lower; len = prefix_len is_word_byte text } = cc in
-        let some = class_at-some text lower at (λ e. cc) in
-        let limit : length (take (prefix_len is_word_byte text) text) ≤ 64 = omega (arith, leb-true _ 64 small.0, length-take-le _ text (prefix_len-le-length is_word_byte text)) in
-        rw is (run_front is_ascii_lowercase is_word_byte lowercase_goes_on Lower (λ _ r. r) form_lower text at some (class_from-lower _ _ _ _ at) limit)
-    | inr large ↦ absurd (cc)
-  ]
+  lower_found at h = word_found Lower (prefix_len is_word_byte text) (lower_is text at) (λ short. short) h
 
   number_found : class_at text ≡ digit → number_front text ≡ Ok f → IsFrontOf text f
   number_found at h =
@@ -149,17 +198,14 @@ module _ (text : List ℕ) (f : Front) where
       elim (cond_found (is_number (take len text)) _ _ _ h) [
         | inl good ↦
             let is : f ≡ record { kind = Number; len = len } = cc in
-            let some = class_at-some text digit at (λ e. cc) in
-            let parts = and_parts (not (has_needless_zero (take len text))) (leb (digits_value 10 (take len text)) 9223372036854775808) good.0 in
-            let limits : IsWithinLimits Number (take len text) = (not-true _ parts.0, leb-true _ 9223372036854775808 parts.1) in
-            rw is (run_front is_ascii_digit is_ascii_digit (λ _ r. r) Number (λ _ r. r) form_digit text at some (class_from-digit _ _ _ _ at) limits)
+            rw is (record { longest = number_is text at; limits = good_number (take len text) good.0 })
         | inr bad ↦ absurd (cc)
       ]
 
 -- ---- literals
 
 -- the reader finds a literal at the front
-literal_at : (text : List ℕ) (len : ℕ) (value : List ℕ) → len ≤ length text → IsLiteral (take len text) value → literal_from 0 1 0 (drop 1 text) ≡ closed len (length value)
+pub literal_at : (text : List ℕ) (len : ℕ) (value : List ℕ) → len ≤ length text → IsLiteral (take len text) value → literal_from 0 1 0 (drop 1 text) ≡ closed len (length value)
 literal_at text len value within (inside, is, writes) =
     let after = drop len text in
     let parts : text ≡ 34 ∷ (inside ++ 34 ∷ after) = sym (take-append-drop len text) ∙ ap (λ (z : List ℕ). z ++ after) is ∙ ap (λ (z : List ℕ). 34 ∷ z) (append_assoc inside (34 ∷ []) after) in
@@ -167,25 +213,29 @@ literal_at text len value within (inside, is, writes) =
     let found = literal_read value 1 0 inside after writes in
     ap (λ (z : List ℕ). literal_from 0 1 0 (drop 1 z)) parts ∙ found ∙ ap₂ closed end (zero-add (length value))
 
-closed_is : (end count len : ℕ) → closed end count ≡ Ok len → end ≡ len
-closed_is end count len h = elim (cond_found (leb count 4096) _ _ _ h) [ inl small ↦ cc | inr large ↦ absurd (cc) ]
-
-literal_longest : (text : List ℕ) (len : ℕ) → literal_from 0 1 0 (drop 1 text) ≡ Ok len → class_at text ≡ quote → NoLonger text len
-literal_longest text len found at kind more longer fits form =
+-- at a literal no longer literal stands
+pub literal_longest : (text : List ℕ) (len : ℕ) (value : List ℕ) → len ≤ length text → class_at text ≡ quote → IsLiteral (take len text) value → NoLonger text len
+literal_longest text len value within at literal kind more longer fits form =
     let same = class_at-form text kind more (omega arith) form in
-    let literal = form_quote kind (take more text) (sym same ∙ at) form in
-    let end = closed_is more (length literal.0) len (sym (literal_at text more literal.0 fits literal.1) ∙ found) in
-    absurd (omega (arith, end))
+    let other = form_quote kind (take more text) (sym same ∙ at) form in
+    let whole : take len text ++ drop len text ≡ take more text ++ drop more text = take-append-drop len text ∙ sym (take-append-drop more text) in
+    let one = literal_only (take len text) (take more text) value other.0 (drop len text) (drop more text) literal other.1 whole in
+    absurd (omega (arith, ap length one.0, length-take-le len text within, length-take-le more text fits))
 
-literal_is : (rest : List ℕ) (len : ℕ) → IsFound rest 1 0 len → (len ≤ length (34 ∷ rest)) × IsLexeme (record { kind = Text; bytes = take len (34 ∷ rest) })
-literal_is rest len found =
-    let text = 34 ∷ rest in
-    let bytes = 34 ∷ (found.inside ++ 34 ∷ []) in
-    let parts : text ≡ bytes ++ found.after = ap (λ (z : List ℕ). 34 ∷ z) (found.text_is ∙ sym (append_assoc found.inside (34 ∷ []) found.after)) in
-    let size : length bytes ≡ len = omega (arith, found.end_is, length-append found.inside (34 ∷ [])) in
-    let same : take len text ≡ bytes = ap (take len) parts ∙ take_at bytes found.after len size in
-    let literal : IsLiteral (take len text) found.value = (found.inside, same, found.writes) in
-    (omega (arith, ap length parts, length-append bytes found.after, size), record { form = (found.value, literal); limits = (found.value, literal, omega (arith, found.small)) })
+-- a literal at the front
+pub literal_is : (rest inside after value : List ℕ) → rest ≡ 34 ∷ (inside ++ 34 ∷ after) → Writes inside value → (1 + length inside + 1 ≤ length rest) × IsLiteral (take (1 + length inside + 1) rest) value
+literal_is rest inside after value is writes =
+    let bytes = 34 ∷ (inside ++ 34 ∷ []) in
+    let parts : rest ≡ bytes ++ after = is ∙ ap (λ (z : List ℕ). 34 ∷ z) (sym (append_assoc inside (34 ∷ []) after)) in
+    let size : length bytes ≡ 1 + length inside + 1 = omega (arith, length-append inside (34 ∷ [])) in
+    let same : take (1 + length inside + 1) rest ≡ bytes = ap (take (1 + length inside + 1)) parts ∙ take_at bytes after (1 + length inside + 1) size in
+    (omega (arith, ap length parts, length-append bytes after, size), (inside, same, writes))
+
+pub longest_literal : (rest inside after value : List ℕ) → rest ≡ 34 ∷ (inside ++ 34 ∷ after) → Writes inside value → IsLongest rest Text (1 + length inside + 1)
+longest_literal rest inside after value is writes =
+    let parts = literal_is rest inside after value is writes in
+    let at : class_at rest ≡ quote = ap class_at is in
+    record { within = parts.0; form = (value, parts.1); longest = literal_longest rest _ value parts.0 at parts.1 }
 
 literal_is_front : (text : List ℕ) (f : Front) → class_at text ≡ quote → literal_front text ≡ Ok f → IsFrontOf text f
 literal_is_front [] f at h = absurd (cc)
@@ -198,8 +248,12 @@ literal_is_front (b ∷ rest) f at h = go (literal_from 0 1 0 rest) refl
         let is : f ≡ record { kind = Text; len = len } = cc in
         let byte = eqb-true b 34 (class_from-quote _ _ _ _ at) in
         let found = literal_found (length rest) rest 1 0 len (omega arith) read in
-        let parts = literal_is rest len found in
-        rw (is, byte) (record { positive = omega (arith, found.end_is); within = parts.0; lexeme = parts.1; longest = rw (← byte) (literal_longest (b ∷ rest) len read at) })
+        let whole : b ∷ rest ≡ 34 ∷ (found.inside ++ 34 ∷ found.after) = ap₂ (λ (x : ℕ) (xs : List ℕ). x ∷ xs) byte found.text_is in
+        let literal = literal_is (b ∷ rest) found.inside found.after found.value whole found.writes in
+        rw (is, found.end_is) (record {
+          longest = longest_literal (b ∷ rest) found.inside found.after found.value whole found.writes;
+          limits = (found.value, literal.1, omega (arith, found.small));
+        })
 
 -- ---- signs
 
@@ -244,10 +298,8 @@ two_front : (a b : ℕ) (rest : List ℕ) (kind : TokenKind) → class_at (a ∷
 two_front a b rest kind at h =
     let is = two_byte_sign-is a b kind h in
     record {
-      positive = omega arith;
-      within = omega arith;
-      lexeme = record { form = form_of_sign kind (a ∷ b ∷ []) is.1 (sym is.0); limits = limits_of_sign kind (a ∷ b ∷ []) is.1 };
-      longest = two_longest a b rest at;
+      longest = record { within = omega arith; form = form_of_sign kind (a ∷ b ∷ []) is.1 (sym is.0); longest = two_longest a b rest at };
+      limits = limits_of_sign kind (a ∷ b ∷ []) is.1;
     }
 
 -- past the end of the text the reader sees a 0, which no sign has
@@ -266,13 +318,11 @@ one_front : (a : ℕ) (rest : List ℕ) (kind : TokenKind) → class_at (a ∷ r
 one_front a rest kind at none h =
     let is = one_byte_sign-is a kind h in
     record {
-      positive = omega arith;
-      within = omega arith;
-      lexeme = record { form = form_of_sign kind (a ∷ []) is.1 (sym is.0); limits = limits_of_sign kind (a ∷ []) is.1 };
-      longest = one_longest a rest at none;
+      longest = record { within = omega arith; form = form_of_sign kind (a ∷ []) is.1 (sym is.0); longest = one_longest a rest at none };
+      limits = limits_of_sign kind (a ∷ []) is.1;
     }
 
-sign_is_front : (text : List ℕ) (f : Front) → class_at text ≡ sign → sign_front text ≡ Ok f → IsFrontOf text f
+pub sign_is_front : (text : List ℕ) (f : Front) → class_at text ≡ sign → sign_front text ≡ Ok f → IsFrontOf text f
 sign_is_front [] f at h = absurd (cc)
 sign_is_front (a ∷ rest) f at h = go (two_byte_sign a (slice_index rest 0)) refl
   where
@@ -296,7 +346,7 @@ sign_is_front (a ∷ rest) f at h = go (two_byte_sign a (slice_index rest 0)) re
 
 -- ---- both ways
 
-abbrev by_class : Class → List ℕ → Result Front Fault
+abbrev pub by_class : Class → List ℕ → Result Front Fault
 by_class upper text = word_front Upper text
 by_class lower text = word_front Lower text
 by_class digit text = number_front text
@@ -310,7 +360,7 @@ by_class-from false false true q text = refl
 by_class-from false false false true text = refl
 by_class-from false false false false text = refl
 
-front-by_class : (text : List ℕ) → front text ≡ by_class (class_at text) text
+pub front-by_class : (text : List ℕ) → front text ≡ by_class (class_at text) text
 unfolding front
 front-by_class text = sym (by_class-from _ _ _ _ text)
 
@@ -324,23 +374,23 @@ by_class_found text f sign at found = sign_is_front text f at found
 pub front_sound : (text : List ℕ) (f : Front) → front text ≡ Ok f → IsFront text f.kind f.len
 front_sound text f h = by_class_found text f (class_at text) refl (sym (front-by_class text) ∙ h)
 
-word_complete : (text : List ℕ) (kind : TokenKind) (len : ℕ) → prefix_len is_word_byte text ≡ len → len ≤ length text → length (take len text) ≤ 64 → word_front kind text ≡ found kind len
+word_complete : (text : List ℕ) (kind : TokenKind) (len : ℕ) → prefix_len is_word_byte text ≡ len → len ≤ length text → length (take len text) ≤ MOST_NAME_BYTES → word_front kind text ≡ found kind len
 word_complete text kind len counted within limit =
-    let small = le-leb len 64 (omega (arith, length-take-le len text within)) in
+    let small = le-leb len MOST_NAME_BYTES (omega (arith, length-take-le len text within)) in
     rw (counted, small) refl
 
 number_complete : (text : List ℕ) (len : ℕ) → prefix_len is_ascii_digit text ≡ len → IsWithinLimits Number (take len text) → number_front text ≡ found Number len
 number_complete text len counted limits =
-    let small = le-leb (digits_value 10 (take len text)) 9223372036854775808 limits.1 in
-    rw (counted, limits.0, small) refl
+    let good = number_within (take len text) limits in
+    rw counted (ap (λ t. cond t (found Number len) (fault BadNumber 0)) good)
 
 literal_complete : (text : List ℕ) (len : ℕ) → len ≤ length text → IsWithinLimits Text (take len text) → literal_front text ≡ found Text len
 literal_complete text len within (value, literal, limit) =
-    let small = le-leb (length value) 4096 limit in
+    let small = le-leb (length value) MOST_TEXT_BYTES limit in
     rw (literal_at text len value within literal, small) refl
 
 -- the front's first bytes are those of what stands there
-two_complete : (text : List ℕ) (kind : TokenKind) (len a b : ℕ) → len ≤ length text → take len text ≡ a ∷ b ∷ [] → two_byte_sign a b ≡ Some kind → sign_front text ≡ found kind len
+pub two_complete : (text : List ℕ) (kind : TokenKind) (len a b : ℕ) → len ≤ length text → take len text ≡ a ∷ b ∷ [] → two_byte_sign a b ≡ Some kind → sign_front text ≡ found kind len
 two_complete text kind len a b within is h =
     let two : len ≡ 2 = omega (arith, ap length is, length-take-le len text within) in
     let first : a ≡ slice_index text 0 = sym (ap (λ (z : List ℕ). slice_index z 0) is) ∙ get_or-take len text 0 0 (omega arith) in
@@ -349,19 +399,19 @@ two_complete text kind len a b within is h =
     rw (known, two) refl
 
 one_complete : (text : List ℕ) (kind : TokenKind) (len a : ℕ) → IsFront text kind len → class_at text ≡ sign → take len text ≡ a ∷ [] → one_byte_sign a ≡ Some kind → sign_front text ≡ found kind len
-one_complete [] kind len a here at is h = absurd (omega (arith, here.positive, here.within))
+one_complete [] kind len a here at is h = absurd (omega (arith, longest_some [] kind len here.longest, here.longest.within))
 one_complete (b ∷ rest) kind len a here at is h = go rest here at
   where
     size : len ≡ 1
-    size = omega (arith, ap length is, length-take-le len (b ∷ rest) here.within)
+    size = omega (arith, ap length is, length-take-le len (b ∷ rest) here.longest.within)
 
     first : a ≡ b
-    first = sym (ap (λ (z : List ℕ). slice_index z 0) is) ∙ get_or-take len (b ∷ rest) 0 0 here.positive
+    first = sym (ap (λ (z : List ℕ). slice_index z 0) is) ∙ get_or-take len (b ∷ rest) 0 0 (longest_some (b ∷ rest) kind len here.longest)
 
     no_two : (others : List ℕ) (other : TokenKind) → IsFront (b ∷ others) kind len → class_at (b ∷ others) ≡ sign → two_byte_sign b (slice_index others 0) ≡ Some other → ⊥
     no_two [] other here at known = not_two_at_end b other known
     no_two (c ∷ others) other here at known =
-        here.longest other 2 (omega (arith, size)) (omega arith) (two_front b c others other at known).lexeme.form
+        here.longest.longest other 2 (omega (arith, size)) (omega arith) (two_front b c others other at known).longest.form
 
     go : (others : List ℕ) → IsFront (b ∷ others) kind len → class_at (b ∷ others) ≡ sign → sign_front (b ∷ others) ≡ found kind len
     go others here at = by (two_byte_sign b (slice_index others 0)) refl
@@ -372,24 +422,21 @@ one_complete (b ∷ rest) kind len a here at is h = go rest here at
 
 sign_complete : (text : List ℕ) (kind : TokenKind) (len : ℕ) → class_of_kind kind ≡ sign → IsFront text kind len → sign_front text ≡ found kind len
 sign_complete text kind len class here =
-    let at = class_at-form text kind len here.positive here.lexeme.form ∙ class in
-    let is = form_sign kind (take len text) class here.lexeme.form in
+    let at = class_at-form text kind len (longest_some text kind len here.longest) here.longest.form ∙ class in
+    let is = form_sign kind (take len text) class here.longest.form in
     elim (bytes_of_sign kind class) [
       | inl one ↦ one_complete text kind len one.0 here at (is ∙ one.1) one.2
-      | inr two ↦ two_complete text kind len two.0 two.1 here.within (is ∙ two.2) two.3
+      | inr two ↦ two_complete text kind len two.0 two.1 here.longest.within (is ∙ two.2) two.3
     ]
 
 by_kind : (text : List ℕ) (kind : TokenKind) (len : ℕ) → class_at text ≡ class_of_kind kind → IsFront text kind len → by_class (class_of_kind kind) text ≡ found kind len
-by_kind text Upper len at here =
-    word_complete text Upper len (run_only is_ascii_uppercase is_word_byte uppercase_goes_on Upper (λ _ r. r) form_upper text len here (class_from-upper _ _ _ _ at)) here.within here.lexeme.limits
-by_kind text Lower len at here =
-    word_complete text Lower len (run_only is_ascii_lowercase is_word_byte lowercase_goes_on Lower (λ _ r. r) form_lower text len here (class_from-lower _ _ _ _ at)) here.within here.lexeme.limits
-by_kind text Number len at here =
-    number_complete text len (run_only is_ascii_digit is_ascii_digit (λ _ r. r) Number (λ _ r. r) form_digit text len here (class_from-digit _ _ _ _ at)) here.lexeme.limits
-by_kind text Text len at here = literal_complete text len here.within here.lexeme.limits
+by_kind text Upper len at here = word_complete text Upper len (upper_only text len at here.longest) here.longest.within here.limits
+by_kind text Lower len at here = word_complete text Lower len (lower_only text len at here.longest) here.longest.within here.limits
+by_kind text Number len at here = number_complete text len (number_only text len at here.longest) here.limits
+by_kind text Text len at here = literal_complete text len here.longest.within here.limits
 by_kind text kind len at here = sign_complete text kind len refl here
 
 pub front_complete : (text : List ℕ) (kind : TokenKind) (len : ℕ) → IsFront text kind len → front text ≡ found kind len
 front_complete text kind len here =
-    let at = class_at-form text kind len here.positive here.lexeme.form in
+    let at = class_at-form text kind len (longest_some text kind len here.longest) here.longest.form in
     front-by_class text ∙ ap (λ c. by_class c text) at ∙ by_kind text kind len at here

@@ -117,6 +117,16 @@ gap_ends false (b ∷ rest) h = elim (gap_from-cases b rest) [
 abbrev pub Stops : ℕ → Type 0
 Stops b = (eqb b 35 ≡ false) × (is_blank b ≡ false)
 
+-- the reader goes no further only at such a byte
+gap_stops_at : (in_comment : Bool) (text : List ℕ) → gap_from in_comment text < length text → Stops (slice_index text (gap_from in_comment text))
+gap_stops_at in_comment [] h = absurd (omega arith)
+gap_stops_at true (b ∷ rest) h = gap_stops_at (not (eqb b 10)) rest (omega arith)
+gap_stops_at false (b ∷ rest) h = elim (gap_from-cases b rest) [
+  | inl sharp ↦ rw (← sharp.1) (gap_stops_at true rest (omega (arith, sharp.1)))
+  | inr (inl blank) ↦ rw (← blank.2) (gap_stops_at false rest (omega (arith, blank.2)))
+  | inr (inr end) ↦ rw (← end.2) (end.0, end.1)
+]
+
 gap_only : (in_comment : Bool) (text : List ℕ) (n : ℕ) → is_gap in_comment (take n text) ≡ true → n < length text → Stops (slice_index text n) → gap_from in_comment text ≡ n
 gap_only in_comment [] n h within stops = absurd (omega arith)
 gap_only true (b ∷ rest) zero h within stops = absurd (false≢true h)
@@ -162,6 +172,9 @@ gap_len-fits text = gap_fits false text
 
 pub gap_before : (text : List ℕ) → gap_len text < length text → IsGap (take (gap_len text) text)
 gap_before text h = gap_from_test false _ (gap_stops false text h)
+
+pub gap_len-stops : (text : List ℕ) → gap_len text < length text → Stops (slice_index text (gap_len text))
+gap_len-stops text h = gap_stops_at false text h
 
 pub gap_len-only : (text : List ℕ) (n : ℕ) → IsGap (take n text) → n < length text → Stops (slice_index text n) → gap_len text ≡ n
 gap_len-only text n gap within stops = gap_only false text n (test_from_gap (take n text) gap) within stops

@@ -2,6 +2,12 @@ pub mod Classes
 pub mod Fronts
 pub mod Gaps
 pub mod Literals
+pub mod OneAnswer
+pub mod OneValue
+pub mod Refusals
 pub mod Runs
 pub mod Signs
+pub mod StoppedLiterals
 pub mod TokenLists
+pub mod Values
+pub mod WrittenTexts

@@ -6,7 +6,7 @@ use Rattle.std.specs.Char.{is_ascii_control, is_ascii_digit, digit_char}
 use Rattle.std.specs.Int.{is_in_range}
 use Rattle.std.proofs.lemmas.Bool.{false≢true, and_parts, or_cases, eqb-true, eq-eqb, ne_eqb, leb-true}
 use Rattle.std.proofs.lemmas.Bool.Decides.{nat_tests}
-use Rattle.sc_lexer.specs.declared.syntax_err.Fault.{Fault}
+use Rattle.sc_lexer.specs.declared.lex_err.Fault.{Fault}
 use Rattle.sc_lexer.specs.LiteralEnd.{character_front, closed, ends_line, escape_len, is_hex_pair, literal_from}
 use Rattle.sc_lexer.specs.Literal.{WritesByte, Writes, escaped, is_raw}
 
@@ -17,6 +17,9 @@ pub record IsRead (at : ℕ) (text : List ℕ) (len : ℕ) : Type 0 where
   pub read : character_front at text ≡ Ok len
   pub no_quote : eqb (slice_index text 0) 34 ≡ false
   pub positive : 0 < len
+
+pub no_slash : (byte : ℕ) → is_raw byte ≡ true → ¬ (byte ≡ 92)
+no_slash byte h e = let slash : is_raw 92 ≡ true = ap is_raw (sym e) ∙ h in cc
 
 read_raw : (at byte : ℕ) (rest : List ℕ) → is_raw byte ≡ true → IsRead at (byte ∷ rest) 1
 read_raw at byte rest h =
@@ -36,10 +39,10 @@ read_escape at letter byte rest h =
     let known : is_some (escaped letter) ≡ true = rw h refl in
     record { read = rw (line, known) refl; no_quote = refl; positive = omega arith }
 
-high_digit : (n : ℕ) → n ≤ 7 → is_in_range 48 55 (digit_char n) ≡ true
+pub high_digit : (n : ℕ) → n ≤ 7 → is_in_range 48 55 (digit_char n) ≡ true
 high_digit n h = grind (arith, nat_tests)
 
-low_digit : (n : ℕ) → n < 16 → (is_ascii_digit (digit_char n) || is_in_range 97 102 (digit_char n)) ≡ true
+pub low_digit : (n : ℕ) → n < 16 → (is_ascii_digit (digit_char n) || is_in_range 97 102 (digit_char n)) ≡ true
 low_digit n h = grind (arith, nat_tests)
 
 read_hex : (at byte : ℕ) (rest : List ℕ) → byte ≤ 127 → IsRead at (92 ∷ 120 ∷ digit_char (byte / 16) ∷ digit_char (byte % 16) ∷ rest) 4
@@ -179,19 +182,23 @@ literal_from-character at count [] len quote read some = absurd (cc)
 literal_from-character at count (b ∷ rest) len quote read some =
     rw (quote, read) (literal_from-drop (len - 1) (at + len) (count + 1) rest ∙ ap (λ z. literal_from 0 (at + len) (count + 1) z) (drop-pred len b rest some))
 
-pub literal_read : (value : List ℕ) (at count : ℕ) (inside after : List ℕ) → Writes inside value → literal_from 0 at count (inside ++ 34 ∷ after) ≡ closed (at + length inside + 1) (count + length value)
-literal_read [] at count inside after h =
-    let end : at + 1 ≡ at + 0 + 1 = omega arith in
+-- the reader goes on after what stands for some bytes
+pub literal_goes_on : (value : List ℕ) (at count : ℕ) (inside after : List ℕ) → Writes inside value → literal_from 0 at count (inside ++ after) ≡ literal_from 0 (at + length inside) (count + length value) after
+literal_goes_on [] at count inside after h =
+    let end : at ≡ at + 0 = omega arith in
     let same : count ≡ count + 0 = omega arith in
-    rw h (ap₂ closed end same)
-literal_read (byte ∷ value) at count inside after (written, rest, is, first, others) =
-    let text = rest ++ 34 ∷ after in
+    rw h (ap₂ (λ i n. literal_from 0 i n after) end same)
+literal_goes_on (byte ∷ value) at count inside after (written, rest, is, first, others) =
+    let text = rest ++ after in
     let found = read_character at written text byte first in
     let step = literal_from-character at count (written ++ text) (length written) found.no_quote found.read found.positive in
-    let next = literal_read value (at + length written) (count + 1) rest after others in
-    let end : at + length written + length rest + 1 ≡ at + length (written ++ rest) + 1 = omega (arith, length-append written rest) in
+    let next = literal_goes_on value (at + length written) (count + 1) rest after others in
+    let end : at + length written + length rest ≡ at + length (written ++ rest) = omega (arith, length-append written rest) in
     let same : count + 1 + length value ≡ count + suc (length value) = omega arith in
-    rw (is, append_assoc) (step ∙ rw drop-append_seam (next ∙ ap₂ closed end same))
+    rw (is, append_assoc) (step ∙ rw drop-append_seam (next ∙ ap₂ (λ i n. literal_from 0 i n after) end same))
+
+pub literal_read : (value : List ℕ) (at count : ℕ) (inside after : List ℕ) → Writes inside value → literal_from 0 at count (inside ++ 34 ∷ after) ≡ closed (at + length inside + 1) (count + length value)
+literal_read value at count inside after h = literal_goes_on value at count inside (34 ∷ after) h
 
 -- what the reader finds: the rest of a literal whose first `at` bytes are read and stand for `count` bytes
 pub record IsFound (text : List ℕ) (at count end : ℕ) : Type 0 where

@@ -14,20 +14,12 @@ use Rattle.sc_lexer.specs.Front.{front, found, placed}
 use Rattle.sc_lexer.specs.Gap.{gap_len}
 use Rattle.sc_lexer.specs.Lexeme.{HasForm, IsLexeme, is_word_byte}
 use Rattle.sc_lexer.specs.Lexes.{IsGap, IsTokenOf, LexesFrom, Lexes}
-use Rattle.sc_lexer.specs.Token.{IsBefore, IsIn, lexeme_of, lexemes_of}
-use Rattle.sc_lexer.proofs.Fronts.{IsFront, front_complete, front_sound}
+use Rattle.sc_lexer.specs.Token.{IsBefore, IsIn, lexeme_of}
+use Rattle.sc_lexer.proofs.Fronts.{IsFront, form_some, front_complete, front_sound, longest_some}
 use Rattle.sc_lexer.proofs.Gaps.{Stops, gap_before, gap_len-fits, gap_len-only, gap_len-whole, gap_to_end}
 use Rattle.sc_lexer.proofs.Runs.{is_run-first}
 
 -- ---- one token
-
-form_some : (kind : TokenKind) (bytes : List ℕ) → HasForm kind bytes → 0 < length bytes
-form_some Upper [] h = absurd (cc)
-form_some Lower [] h = absurd (cc)
-form_some Number [] h = absurd (cc)
-form_some Text [] h = let clash = h.1.1 in absurd (cc)
-form_some _ [] h = absurd (cc)
-form_some _ (b ∷ rest) h = omega arith
 
 uppercase_stops : (b : ℕ) → is_ascii_uppercase b ≡ true → Stops b
 uppercase_stops b h = (grind (arith, nat_tests), grind (arith, nat_tests))
@@ -55,18 +47,20 @@ module _ (text : List ℕ) (t : Token) (token : IsTokenOf text t) where
   pub token_front : IsFront (drop t.at text) t.kind (t.end - t.at)
   token_front =
       record {
-        positive = omega (arith, token_in.0);
-        within = omega (arith, token_in, length-drop t.at text);
-        lexeme = token.lexeme;
-        longest = λ kind more longer fits form.
-            let size = length-drop t.at text in
-            let same : more ≡ t.at + more - t.at = omega arith in
-            token.longest kind (t.at + more) (omega (arith, token_in.0)) (omega (arith, token_in)) (subst (λ n. HasForm kind (take n (drop t.at text))) same form);
+        longest = record {
+          within = omega (arith, token_in, length-drop t.at text);
+          form = token.lexeme.form;
+          longest = λ kind more longer fits form.
+              let size = length-drop t.at text in
+              let same : more ≡ t.at + more - t.at = omega arith in
+              token.longest kind (t.at + more) (omega (arith, token_in.0)) (omega (arith, token_in)) (subst (λ n. HasForm kind (take n (drop t.at text))) same form);
+        };
+        limits = token.lexeme.limits;
       }
 
-  token_stops : Stops (slice_index text t.at)
+  pub token_stops : Stops (slice_index text t.at)
   token_stops =
-      let first : slice_index (slice_range text t.at t.end) 0 ≡ slice_index text (t.at + 0) = get_or-take (t.end - t.at) (drop t.at text) 0 0 token_front.positive ∙ get_or-drop t.at text 0 0 in
+      let first : slice_index (slice_range text t.at t.end) 0 ≡ slice_index text (t.at + 0) = get_or-take (t.end - t.at) (drop t.at text) 0 0 (omega (arith, token_in.0)) ∙ get_or-drop t.at text 0 0 in
       let same : t.at + 0 ≡ t.at = omega arith in
       subst Stops (first ∙ ap (slice_index text) same) (form_stops t.kind (slice_range text t.at t.end) token.lexeme.form)
 
@@ -80,9 +74,9 @@ token_from_front text at f within h =
     let size = length-drop at text in
     let same : f.len ≡ at + f.len - at = omega arith in
     record {
-      within = omega (arith, here.within, here.positive);
-      lexeme = subst (λ n. IsLexeme (record { kind = f.kind; bytes = take n (drop at text) })) same here.lexeme;
-      longest = λ kind end longer fits form. here.longest kind (end - at) (omega arith) (omega arith) form;
+      within = omega (arith, here.longest.within, longest_some (drop at text) f.kind f.len here.longest);
+      lexeme = subst (λ n. IsLexeme (record { kind = f.kind; bytes = take n (drop at text) })) same (record { form = here.longest.form; limits = here.limits });
+      longest = λ kind end longer fits form. here.longest.longest kind (end - at) (omega arith) (omega arith) form;
     }
 
 pub same_token : (text : List ℕ) (t u : Token) → t.at ≡ u.at → IsTokenOf text t → IsTokenOf text u → t ≡ u
@@ -108,17 +102,22 @@ Starts text at (token ∷ tokens) = (token.at ≡ at) × IsTokenOf text token ×
 abbrev pub past_gap : List ℕ → ℕ → ℕ
 past_gap text from = from + gap_len (drop from text)
 
+-- a gap that ends where no gap goes on
+pub gap_ends_at : (text : List ℕ) (from at : ℕ) → from ≤ at → at < length text → IsGap (slice_range text from at) → Stops (slice_index text at) → past_gap text from ≡ at
+gap_ends_at text from at after within gap stops =
+    let size = length-drop from text in
+    let n = at - from in
+    let inside : n < length (drop from text) = omega arith in
+    let place : from + n ≡ at = omega arith in
+    let here : Stops (slice_index (drop from text) n) = subst Stops (sym (get_or-drop from text n 0 ∙ ap (slice_index text) place)) stops in
+    omega (arith, gap_len-only (drop from text) n gap inside here)
+
 pub starts_past_gap : (text : List ℕ) (from : ℕ) (tokens : List Token) → from ≤ length text → LexesFrom text from tokens → Starts text (past_gap text from) tokens
 starts_past_gap text from [] fits gap =
     omega (arith, gap_len-whole (drop from text) gap, length-drop from text)
 starts_past_gap text from (token ∷ tokens) fits (after, gap, is, rest) =
-    let size = length-drop from text in
-    let n = token.at - from in
-    let within : n < length (drop from text) = omega (arith, token_in text token is) in
-    let place : from + n ≡ token.at = omega arith in
-    let stops : Stops (slice_index (drop from text) n) = subst Stops (sym (get_or-drop from text n 0 ∙ ap (slice_index text) place)) (token_stops text token is) in
-    let len = gap_len-only (drop from text) n gap within stops in
-    (omega (arith, len), is, rest)
+    let inside : token.at < length text = omega (arith, token_in text token is) in
+    (sym (gap_ends_at text from token.at after inside gap (token_stops text token is)), is, rest)
 
 pub lexes_past_gap : (text : List ℕ) (from : ℕ) (tokens : List Token) → from ≤ length text → Starts text (past_gap text from) tokens → LexesFrom text from tokens
 lexes_past_gap text from [] fits end = gap_to_end (drop from text) (omega (arith, length-drop from text))
@@ -179,14 +178,6 @@ read_token text tokens t read is =
 pub read_all : (text : List ℕ) (tokens : List Token) (at : ℕ) → IsReadTo text tokens at → length text ≤ at → LexesFrom text 0 tokens
 read_all text tokens at read end = rw append-nil at (read.goes_on [] end)
 
--- where no token stands, no list goes on
-pub read_none : (text : List ℕ) (tokens : List Token) (at : ℕ) → IsReadTo text tokens at → at < length text → ((t : Token) → t.at ≡ at → ¬ (IsTokenOf text t)) → (all : List Token) → ¬ (LexesFrom text 0 all)
-read_none text tokens at read more none all h = let found = read.only all h in go found.0 found.2
-  where
-    go : (rest : List Token) → Starts text at rest → ⊥
-    go [] end = omega arith
-    go (t ∷ rest) (from, is, after) = none t from is
-
 -- ---- in order
 
 all_in : (text : List ℕ) (from : ℕ) (tokens : List Token) → LexesFrom text from tokens → All (IsIn text) tokens
@@ -204,10 +195,10 @@ all_in_order text from [] h = λ i j d before within. absurd (omega arith)
 all_in_order text from (t ∷ tokens) (after, gap, is, rest) =
     AllPairs-cons IsBefore t tokens (all_after text t.end t.end tokens (omega arith) rest) (all_in_order text t.end tokens rest)
 
-all_lexemes : (text : List ℕ) (from : ℕ) (tokens : List Token) → LexesFrom text from tokens → All IsLexeme (lexemes_of text tokens)
-all_lexemes text from [] h = All-nil IsLexeme
+all_lexemes : (text : List ℕ) (from : ℕ) (tokens : List Token) → LexesFrom text from tokens → All (λ token. IsLexeme (lexeme_of text token)) tokens
+all_lexemes text from [] h = All-nil (λ (t : Token). IsLexeme (lexeme_of text t))
 all_lexemes text from (t ∷ tokens) (after, gap, is, rest) =
-    All-cons IsLexeme (lexeme_of text t) (lexemes_of text tokens) is.lexeme (all_lexemes text t.end tokens rest)
+    All-cons (λ (t : Token). IsLexeme (lexeme_of text t)) t tokens is.lexeme (all_lexemes text t.end tokens rest)
 
 pub tokens_in : (text : List ℕ) (tokens : List Token) → Lexes text tokens → All (IsIn text) tokens
 tokens_in text tokens h = all_in text 0 tokens h.1
@@ -215,15 +206,15 @@ tokens_in text tokens h = all_in text 0 tokens h.1
 pub tokens_ordered : (text : List ℕ) (tokens : List Token) → Lexes text tokens → AllPairs IsBefore tokens
 tokens_ordered text tokens h = all_in_order text 0 tokens h.1
 
-pub tokens_lexemes : (text : List ℕ) (tokens : List Token) → Lexes text tokens → All IsLexeme (lexemes_of text tokens)
-tokens_lexemes text tokens h = all_lexemes text 0 tokens h.1
+pub each_lexeme : (text : List ℕ) (tokens : List Token) → Lexes text tokens → All (λ token. IsLexeme (lexeme_of text token)) tokens
+each_lexeme text tokens h = all_lexemes text 0 tokens h.1
 
 -- ---- the reader at a place
 
 pub front_within : (text : List ℕ) (at : ℕ) (f : Front) → at ≤ length text → front (drop at text) ≡ Ok f → (at < at + f.len) × (at + f.len ≤ length text)
 front_within text at f within h =
     let here = front_sound (drop at text) f h in
-    (omega (arith, here.positive), omega (arith, here.within, length-drop at text))
+    (omega (arith, longest_some (drop at text) f.kind f.len here.longest), omega (arith, here.longest.within, length-drop at text))
 
 pub placed_token : (text : List ℕ) (at : ℕ) (t : Token) → t.at ≡ at → IsTokenOf text t → placed at (front (drop at text)) ≡ Ok t
 placed_token text at t same token =

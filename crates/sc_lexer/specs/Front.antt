@@ -5,13 +5,16 @@ use Rattle.std.specs.Char.{is_ascii_digit, is_ascii_lowercase, is_ascii_uppercas
 use Rattle.std.specs.List.{prefix_len}
 use Rattle.std.specs.Str.Parse.{digits_value}
 use Rattle.sc_lexer.specs.declared.front.Front.{Front}
-use Rattle.sc_lexer.specs.declared.syntax_err.Fault.{Fault}
-use Rattle.sc_lexer.specs.declared.syntax_err.Cause.{Cause}
-use Rattle.sc_lexer.specs.declared.syntax_err.Cause.TheVariants.{BadByte, BadNumber, TooManyNameBytes}
+use Rattle.sc_lexer.specs.declared.lex_err.Fault.{Fault}
+use Rattle.sc_lexer.specs.declared.lex_err.Cause.{Cause}
+use Rattle.sc_lexer.specs.declared.lex_err.LexErr.{LexErr}
+use Rattle.sc_lexer.specs.declared.lex_err.Cause.TheVariants.{BadByte, BadNumber, TooManyNameBytes}
+use Rattle.sc_lexer.specs.declared.limits.TheConstants.{LARGEST_NUMBER, MOST_NAME_BYTES}
 use Rattle.sc_lexer.specs.declared.token.Token.{Token}
 use Rattle.sc_lexer.specs.declared.token.TokenKind.{TokenKind}
 use Rattle.sc_lexer.specs.declared.token.TokenKind.TheVariants.{Upper, Lower, Number, Text, ParenOpen, ParenClose, BracketOpen, BracketClose, BraceOpen, BraceClose, Comma, Colon, ColonColon, Dot, Arrow, Minus, Plus, EqEq, NotEq, Less, LessEq, Greater, GreaterEq, Not, AndAnd, OrOr, Bar, At}
 use Rattle.sc_lexer.specs.Lexeme.{is_word_byte, has_needless_zero}
+use Rattle.sc_lexer.specs.Fault.{refusal_of}
 use Rattle.sc_lexer.specs.LiteralEnd.{literal_from}
 
 -- ---- words and numbers
@@ -24,10 +27,10 @@ fault cause at = Err (record { cause = cause; at = at })
 
 abbrev pub word_front : TokenKind → List ℕ → Result Front Fault
 word_front kind text =
-    let len = prefix_len is_word_byte text in if nat_le len 64 then found kind len else fault TooManyNameBytes 0
+    let len = prefix_len is_word_byte text in if nat_le len MOST_NAME_BYTES then found kind len else fault TooManyNameBytes 0
 
 abbrev pub is_number : List ℕ → Bool
-is_number run = not (has_needless_zero run) && nat_le (digits_value 10 run) 9223372036854775808
+is_number run = not (has_needless_zero run) && nat_le (digits_value 10 run) LARGEST_NUMBER
 
 abbrev pub number_front : List ℕ → Result Front Fault
 number_front text =
@@ -78,6 +81,6 @@ front text =
     else (if is_ascii_digit b then number_front text else (if b == 34 then literal_front text else sign_front text)))
 
 -- what was found at the front of a text, in a text that has `at` bytes before it
-abbrev pub placed : ℕ → Result Front Fault → Result Token Fault
+abbrev pub placed : ℕ → Result Front Fault → Result Token LexErr
 placed at (Ok f) = Ok (record { kind = f.kind; at = at; end = at + f.len })
-placed at (Err e) = Err (record { cause = e.cause; at = at + e.at })
+placed at (Err e) = Err (refusal_of e.cause (at + e.at))

@@ -3,6 +3,7 @@ use Rattle.std.specs.Prelude.{◌≡◌, ◌≤◌, ℕ, Bool, false, ◌&&◌, 
 use Rattle.std.specs.Char.{is_ascii_uppercase, is_ascii_lowercase, is_ascii_digit, is_ascii_alphanumeric}
 use Rattle.std.specs.List.{list_all}
 use Rattle.std.specs.Str.Parse.{digits_value}
+use Rattle.sc_lexer.specs.declared.limits.TheConstants.{LARGEST_NUMBER, MOST_NAME_BYTES, MOST_TEXT_BYTES}
 use Rattle.sc_lexer.specs.declared.token.TokenKind.{TokenKind}
 use Rattle.sc_lexer.specs.declared.token.TokenKind.TheVariants.{Upper, Lower, Number, Text, ParenOpen, ParenClose, BracketOpen, BracketClose, BraceOpen, BraceClose, Comma, Colon, ColonColon, Dot, Arrow, Minus, Plus, EqEq, NotEq, Less, LessEq, Greater, GreaterEq, Not, AndAnd, OrOr, Bar, At}
 use Rattle.sc_lexer.specs.Literal.{IsLiteral}
@@ -70,13 +71,13 @@ has_needless_zero [] = false
 has_needless_zero (b ∷ []) = false
 has_needless_zero (b ∷ c ∷ rest) = b == 48
 
--- a word of at most 64 bytes, a number of at most 2^63, a literal of at most 4,096 bytes after its escapes
+-- words by their bytes, numbers by their value and with no needless zero, literals by the bytes that they stand for
 abbrev pub IsWithinLimits : TokenKind → List ℕ → Type 0
-IsWithinLimits Upper bytes = length bytes ≤ 64
-IsWithinLimits Lower bytes = length bytes ≤ 64
+IsWithinLimits Upper bytes = length bytes ≤ MOST_NAME_BYTES
+IsWithinLimits Lower bytes = length bytes ≤ MOST_NAME_BYTES
 IsWithinLimits Number bytes =
-    IsFalse (has_needless_zero bytes) × (digits_value 10 bytes ≤ 9223372036854775808)
-IsWithinLimits Text bytes = (value : List ℕ) × IsLiteral bytes value × (length value ≤ 4096)
+    IsFalse (has_needless_zero bytes) × (digits_value 10 bytes ≤ LARGEST_NUMBER)
+IsWithinLimits Text bytes = (value : List ℕ) × IsLiteral bytes value × (length value ≤ MOST_TEXT_BYTES)
 IsWithinLimits kind bytes = Unit {0}
 
 -- The bytes may be a token of the kind.

@@ -1,7 +1,11 @@
+pub mod Fault
 pub mod Front
 pub mod Gap
 pub mod Lexeme
 pub mod Lexes
 pub mod Literal
 pub mod LiteralEnd
+pub mod Public
+pub mod Refused
 pub mod Token
+pub mod Written

@@ -1,10 +1,11 @@
 -- Where a literal ends, as the reader goes through it, or what stands in its way. Places are counted from its quote.
-use Rattle.std.specs.Prelude.{ℕ, zero, suc, ◌+◌, ◌-◌, Bool, true, ◌&&◌, ◌||◌, ◌==◌, nat_le, if◌then◌else◌, List, [], ◌∷◌, drop, slice_index, is_some, Result, Ok, Err}
+use Rattle.std.specs.Prelude.{ℕ, zero, suc, ◌+◌, ◌-◌, ◌<◌, ◌≤◌, Bool, true, ◌&&◌, ◌||◌, ◌==◌, nat_le, if◌then◌else◌, List, [], ◌∷◌, length, take, drop, slice_index, is_some, Result, Ok, Err}
 use Rattle.std.specs.Char.{is_ascii_control, is_ascii_digit}
 use Rattle.std.specs.Int.{is_in_range}
-use Rattle.sc_lexer.specs.declared.syntax_err.Fault.{Fault}
-use Rattle.sc_lexer.specs.declared.syntax_err.Cause.TheVariants.{BadByte, Unfinished, TooManyTextBytes}
-use Rattle.sc_lexer.specs.Literal.{escaped}
+use Rattle.sc_lexer.specs.declared.lex_err.Fault.{Fault}
+use Rattle.sc_lexer.specs.declared.lex_err.Cause.TheVariants.{BadByte, Unfinished, TooManyTextBytes}
+use Rattle.sc_lexer.specs.declared.limits.TheConstants.{MOST_TEXT_BYTES}
+use Rattle.sc_lexer.specs.Literal.{WritesByte, escaped}
 
 -- two lower-case hexadecimal digits, of a value below 128, at the front
 abbrev pub is_hex_pair : List ℕ → Bool
@@ -40,7 +41,7 @@ character_front at text =
 
 -- the end of a literal that stands for so many bytes
 abbrev pub closed : ℕ → ℕ → Result ℕ Fault
-closed end count = if nat_le count 4096 then Ok end else Err (record { cause = TooManyTextBytes; at = 0 })
+closed end count = if nat_le count MOST_TEXT_BYTES then Ok end else Err (record { cause = TooManyTextBytes; at = 0 })
 
 abbrev pub if_read : Result ℕ Fault → (ℕ → Result ℕ Fault) → Result ℕ Fault
 if_read (Ok len) next = next len
@@ -54,3 +55,7 @@ literal_from (suc left) at count (b ∷ rest) = literal_from left at count rest
 literal_from zero at count (b ∷ rest) =
     if b == 34 then closed (at + 1) count
     else if_read (character_front at (b ∷ rest)) (λ len. literal_from (len - 1) (at + len) (count + 1) rest)
+
+-- Some character inside a literal stands at the front.
+abbrev pub IsCharacterAt : List ℕ → Type 0
+IsCharacterAt text = (len byte : ℕ) × (0 < len) × (len ≤ length text) × WritesByte (take len text) byte

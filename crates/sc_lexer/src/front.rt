@@ -3,10 +3,10 @@
 ghost use Rattle.sc_lexer.specs.Front.{front};
 ghost use Rattle.std.specs.Prelude.{IfErr, length, ◌<◌, ◌^◌, ◌≡◌, ◌≤◌};
 
+use crate::lex_err::Fault;
 use crate::literal::literal;
 use crate::number::number;
 use crate::sign::sign;
-use crate::syntax_err::Fault;
 use crate::token::TokenKind;
 use crate::word::word;
 
@@ -17,8 +17,8 @@ pub struct Front {
     pub len: usize,
 }
 
-#[tactic(auto, unfolding(crate::specs::Front::front))]
 /// The token at the front, or what stands in its way, and where.
+#[tactic(auto, unfolding(crate::specs::Front::front))]
 pub fn front_token(text: &[u8]) -> Result<Front, Fault>
     requires some { 0 < length text.now }
     requires small { length text.now < 2 ^ 32 }

@@ -4,6 +4,7 @@ ghost use Rattle.sc_lexer.specs.Gap.{gap_len};
 ghost use Rattle.sc_lexer.specs.Lexes.{is_blank};
 ghost use Rattle.std.specs.Prelude.{length, ◌≡◌, ◌≤◌};
 
+/// Whether the byte is a space, a tab, a carriage return or the end of a line.
 fn is_blank(byte: u8) -> bool
     ensures { result ≡ is_blank byte }
 {

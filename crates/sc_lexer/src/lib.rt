@@ -6,7 +6,8 @@
 //! `specs/`, the relation of a text and its tokens in `specs/Lexes.antt`.
 //!
 //! - `token`: [`Token`], [`TokenKind`], and [`bytes_of`], the bytes of a token.
-//! - `syntax_err`: [`SyntaxErr`], what `lex` answers where a text has no tokens; inside, its cause and place.
+//! - `lex_err`: [`LexErr`], what `lex` answers where a text has no tokens: the cause and its place.
+//! - `limits`: how long a name and a text may be, and how large a number.
 //! - `gap`, `word`, `number`, `literal`, `sign`: what may stand at the front of a text, one kind of thing each.
 //! - `front`: the token at the front of a text.
 //! - `text`: [`lex`], the tokens of a whole text.
@@ -17,17 +18,23 @@
 mod front;
 mod gap;
 mod laws;
+mod lex_err;
+pub mod limits;
 mod literal;
 mod number;
 mod sign;
-mod syntax_err;
 #[cfg(test)]
 mod tests;
 mod text;
 mod token;
 mod word;
 
-pub use laws::{one_token_list, tokens_are_lexemes, tokens_in_order};
-pub use syntax_err::SyntaxErr;
+pub use laws::{
+    literals_are_texts, one_answer, one_token_list, tokens_are_lexemes, tokens_in_order,
+    written_lexemes_are_tokens,
+};
+pub use lex_err::LexErr;
+pub use literal::text_of;
+pub use number::number_of;
 pub use text::lex;
 pub use token::{Token, TokenKind, bytes_of};

@@ -1,16 +1,20 @@
 //! Texts in quotes.
 
 ghost use Rattle.sc_lexer.specs.Front.{literal_front};
-ghost use Rattle.sc_lexer.specs.LiteralEnd.{character_front, closed, ends_line, escape_len, is_hex_pair, literal_from};
-ghost use Rattle.sc_lexer.specs.Literal.{escaped};
-ghost use Rattle.std.specs.Prelude.{IfErr, IfOk, is_some, length, ◌+◌, ◌<◌, ◌^◌, ◌≡◌, ◌≤◌};
+ghost use Rattle.sc_lexer.specs.LiteralEnd.{IsCharacterAt, character_front, closed, ends_line, escape_len, is_hex_pair, literal_from};
+ghost use Rattle.sc_lexer.specs.Lexeme.{IsLexeme};
+ghost use Rattle.sc_lexer.specs.Literal.{IsLiteral, WritesByte, escaped};
+ghost use Rattle.sc_lexer.specs.Token.{IsIn, lexeme_of};
+ghost use Rattle.std.specs.Char.{digit_value, is_ascii_digit};
+ghost use Rattle.std.specs.Int.{is_in_range};
+ghost use Rattle.std.specs.Prelude.{IfErr, IfOk, IsTrue, List, Some, is_some, length, take, ℕ, ◌+◌, ◌<◌, ◌^◌, ◌||◌, ◌≡◌, ◌≤◌};
+ghost use Rattle.std.specs.Str.{IsUtf8};
 
 use crate::front::Front;
-use crate::syntax_err::{Cause, Fault};
-use crate::token::TokenKind;
-
-/// The most bytes that a literal stands for.
-const MOST_TEXT_BYTES: usize = 4096;
+use crate::lex_err::{Cause, Fault};
+use crate::limits::MOST_TEXT_BYTES;
+use crate::token::{Token, TokenKind, bytes_of};
+use std::alloc::{AllocError, Global};
 
 /// Whether the byte may follow a backslash with no more.
 fn is_escape_letter(byte: u8) -> bool
@@ -110,4 +114,72 @@ pub fn literal(text: &[u8]) -> Result<Front, Fault>
         kind: TokenKind::Text,
         len,
     })
+}
+
+/// The byte that a backslash and this letter stand for.
+fn unescaped(letter: u8) -> u8
+    requires { IsTrue (is_some (escaped letter)) }
+    ensures { Some result ≡ escaped letter }
+{
+    match letter {
+        b'n' => b'\n',
+        b'r' => b'\r',
+        b't' => b'\t',
+        _ => letter,
+    }
+}
+
+/// The value of a lower-case hexadecimal digit.
+fn hex_value(digit: u8) -> u8
+    requires { IsTrue (is_ascii_digit digit || is_in_range 97 102 digit) }
+    ensures value { result ≡ digit_value digit }
+    ensures small { result < 16 }
+{
+    match digit {
+        b'0'..=b'9' => digit - b'0',
+        _ => digit - b'a' + 10,
+    }
+}
+
+/// The byte that the character at the front stands for, and how many bytes the character has.
+fn character(text: &[u8]) -> (u8, usize)
+    requires { IsCharacterAt text.now }
+    ensures writes { WritesByte (take result.1 text.now) result.0 }
+    ensures within { (0 < result.1) × (result.1 ≤ length text.now) }
+{
+    let first = text[0];
+    if first != b'\\' {
+        return (first, 1);
+    }
+    match text[1] {
+        b'x' => (16 * hex_value(text[2]) + hex_value(text[3]), 4),
+        letter => (unescaped(letter), 2),
+    }
+}
+
+/// The bytes that the characters between the quotes of a literal stand for.
+fn unescape(alloc: Global, literal: &[u8]) -> Result<Vec<u8>, AllocError>
+    requires { (value : List ℕ) × IsLiteral literal.now value }
+    ensures { IfOk result (λ value. IsLiteral literal.now value.items) }
+{
+    let mut value = Vec::new(alloc);
+    let mut rest = &literal[1..literal.len() - 1];
+    while !rest.is_empty() {
+        let (byte, len) = character(rest);
+        value.push(byte)?;
+        rest = &rest[len..];
+    }
+    Ok(value)
+}
+
+/// The bytes that a literal stands for.
+pub fn text_of(alloc: Global, text: &[u8], token: Token) -> Result<Vec<u8>, AllocError>
+    requires in_text { IsIn text.now token }
+    requires literal { token.kind ≡ TokenKind.Text }
+    requires lexeme { IsLexeme (lexeme_of text.now token) }
+    ensures value { IfOk result (λ value. IsLiteral (lexeme_of text.now token).bytes value.items) }
+    ensures limit { IfOk result (λ value. length value.items ≤ MOST_TEXT_BYTES) }
+    ensures utf8 { IsUtf8 text.now → IfOk result (λ value. IsUtf8 value.items) }
+{
+    unescape(alloc, bytes_of(text, token))
 }

@@ -1,18 +1,17 @@
 //! Numbers.
 
 ghost use Rattle.sc_lexer.specs.Front.{number_front};
-ghost use Rattle.sc_lexer.specs.Lexeme.{has_needless_zero};
+ghost use Rattle.sc_lexer.specs.Lexeme.{IsLexeme, has_needless_zero};
+ghost use Rattle.sc_lexer.specs.Token.{IsIn, lexeme_of};
 ghost use Rattle.std.specs.Char.{is_ascii_digit};
 ghost use Rattle.std.specs.List.{list_all, prefix_len};
-ghost use Rattle.std.specs.Prelude.{IfErr, IsTrue, length, take, ◌↔◌, ◌≡◌, ◌≤◌};
+ghost use Rattle.std.specs.Prelude.{IfErr, IfSome, IsNone, IsTrue, length, take, ◌<◌, ◌≡◌, ◌≤◌};
 ghost use Rattle.std.specs.Str.Parse.{digits_value};
 
 use crate::front::Front;
-use crate::syntax_err::{Cause, Fault};
-use crate::token::TokenKind;
-
-/// The largest number, 2^63: with a sign before it, it is the least integer of 64 bits.
-const LARGEST_NUMBER: u128 = 9_223_372_036_854_775_808;
+use crate::lex_err::{Cause, Fault};
+use crate::limits::LARGEST_NUMBER;
+use crate::token::{Token, TokenKind, bytes_of};
 
 /// How many bytes at the front are digits.
 fn digits_end(text: &[u8]) -> usize
@@ -27,21 +26,24 @@ fn digits_end(text: &[u8]) -> usize
     end
 }
 
-/// Whether the number that the digits write is at most the largest.
-fn is_in_range(digits: &[u8]) -> bool
+/// The number that the digits write, or None where it is above the largest.
+fn value_of(digits: &[u8]) -> Option<u64>
     requires { IsTrue (list_all is_ascii_digit digits.now) }
-    ensures { IsTrue result ↔ (digits_value 10 digits.now ≤ 9223372036854775808) }
+    ensures some { IfSome result (λ value. (value ≡ digits_value 10 digits.now) × (value ≤ LARGEST_NUMBER)) }
+    ensures none { IsNone result → LARGEST_NUMBER < digits_value 10 digits.now }
 {
+    let largest = u128::from(LARGEST_NUMBER);
     let mut value = 0;
     for digit in digits {
         value = 10 * value + u128::from(*digit - b'0');
-        if value > LARGEST_NUMBER {
-            return false;
+        if value > largest {
+            return None;
         }
     }
-    true
+    Some(value as u64)
 }
 
+/// Whether a 0 stands before further digits.
 fn has_needless_zero(digits: &[u8]) -> bool
     ensures { result ≡ has_needless_zero digits.now }
 {
@@ -55,7 +57,7 @@ pub fn number(text: &[u8]) -> Result<Front, Fault>
 {
     let len = digits_end(text);
     let run = &text[..len];
-    if !has_needless_zero(run) && is_in_range(run) {
+    if !has_needless_zero(run) && value_of(run).is_some() {
         Ok(Front {
             kind: TokenKind::Number,
             len,
@@ -63,4 +65,15 @@ pub fn number(text: &[u8]) -> Result<Front, Fault>
     } else {
         Err(Fault::new(Cause::BadNumber, 0))
     }
+}
+
+/// The number that a token writes.
+pub fn number_of(text: &[u8], token: Token) -> u64
+    requires in_text { IsIn text.now token }
+    requires number { token.kind ≡ TokenKind.Number }
+    requires lexeme { IsLexeme (lexeme_of text.now token) }
+    ensures value { result ≡ digits_value 10 (lexeme_of text.now token).bytes }
+    ensures limit { result ≤ LARGEST_NUMBER }
+{
+    value_of(bytes_of(text, token)).unwrap()
 }

@@ -4,7 +4,7 @@ ghost use Rattle.sc_lexer.specs.Front.{one_byte_sign, sign_front, two_byte_sign}
 ghost use Rattle.std.specs.Prelude.{IfErr, length, ◌<◌, ◌≡◌, ◌≤◌};
 
 use crate::front::Front;
-use crate::syntax_err::{Cause, Fault};
+use crate::lex_err::{Cause, Fault};
 use crate::token::TokenKind;
 
 fn two_byte_sign(first: u8, second: u8) -> Option<TokenKind>

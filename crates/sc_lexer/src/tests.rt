@@ -1,28 +1,20 @@
+//! Texts whose tokens, or whose refusals, are known.
+
 use crate::TokenKind::{
     AndAnd, Arrow, At, Bar, BraceClose, BraceOpen, BracketClose, BracketOpen, Colon, ColonColon,
     Comma, Dot, EqEq, Greater, GreaterEq, Less, LessEq, Lower, Minus, Not, NotEq, Number, OrOr,
     ParenClose, ParenOpen, Plus, Text, Upper,
 };
-use crate::front::front_token;
-use crate::syntax_err::{Cause, Fault};
-use crate::{SyntaxErr, Token, TokenKind, bytes_of, lex};
+use crate::{LexErr, Token, TokenKind, bytes_of, lex, number_of, text_of};
 use std::alloc::Global;
 use std::test::Fail;
 
 /// The tokens of a text of this file, each of which is short enough for `lex`.
-fn tokens_of(alloc: Global, text: &[u8]) -> Result<Vec<Token>, SyntaxErr> {
+fn tokens_of(alloc: Global, text: &[u8]) -> Result<Vec<Token>, LexErr> {
     if text.len() > 2_000_000 {
         return Ok(Vec::new(alloc));
     }
     lex(alloc, text)
-}
-
-/// What stands at the front of such a text.
-fn fault_at_front(text: &[u8]) -> Option<Fault> {
-    if text.is_empty() || text.len() > 2_000_000 {
-        return None;
-    }
-    front_token(text).err()
 }
 
 fn token((kind, at, end): (TokenKind, u32, u32)) -> Token {
@@ -101,62 +93,50 @@ fn every_sign_is_a_token(rt: HostRuntime) -> Result<(), Fail> {
 }
 
 #[test]
-fn the_bytes_of_a_token_are_its_slice(rt: HostRuntime) -> Result<(), Fail> {
-    let text = b"body: Text";
+fn tokens_have_bytes_and_values(rt: HostRuntime) -> Result<(), Fail> {
+    let text = b"body: 9223372036854775808 \"a\\\"\\x1f\xc3\xa9\\t\"";
     let tokens = lex(rt.alloc(), text)?;
-    assert_eq!(rt; tokens.len(), 3);
+    assert_eq!(rt; tokens.len(), 4);
     assert_eq!(rt; bytes_of(text, tokens[0]), b"body".as_slice());
     assert_eq!(rt; bytes_of(text, tokens[1]), b":".as_slice());
-    assert_eq!(rt; bytes_of(text, tokens[2]), b"Text".as_slice());
+    if let Number = tokens[2].kind {
+        assert_eq!(rt; number_of(text, tokens[2]), 9_223_372_036_854_775_808);
+    }
+    if let Text = tokens[3].kind {
+        let value = text_of(rt.alloc(), text, tokens[3])?;
+        assert_eq!(rt; value.as_slice(), b"a\"\x1f\xc3\xa9\t".as_slice());
+    }
     Ok(())
 }
 
 #[test]
 fn each_refusal_has_its_cause_and_place(rt: HostRuntime) {
-    let table: [(&[u8], Cause, usize); 19] = [
-        (b"=", Cause::BadByte, 0),
-        (b"& &", Cause::BadByte, 0),
-        (b"_a", Cause::BadByte, 0),
-        (b"\0", Cause::BadByte, 0),
-        (b"\xc3\xa9", Cause::BadByte, 0),
-        (b"00", Cause::BadNumber, 0),
-        (b"007a", Cause::BadNumber, 0),
-        (b"9223372036854775809", Cause::BadNumber, 0),
-        (b"10000000000000000000", Cause::BadNumber, 0),
-        (b"\"abc", Cause::Unfinished, 0),
-        (b"\"ab\nc\"", Cause::Unfinished, 0),
-        (b"\"a\\", Cause::Unfinished, 0),
-        (b"\"a\\\n\"", Cause::Unfinished, 0),
-        (b"\"a\\q", Cause::BadByte, 2),
-        (b"\"\\x80\"", Cause::BadByte, 1),
-        (b"\"\\x4F\"", Cause::BadByte, 1),
-        (b"\"a\rb\"", Cause::BadByte, 2),
-        (b"\"\x7f\"", Cause::BadByte, 1),
-        (b"\"\t\n", Cause::BadByte, 1),
+    let table: [(&[u8], LexErr); 22] = [
+        (b"\xff", LexErr::NotText { at: 0 }),
+        (b"a = # \xc3(", LexErr::NotText { at: 6 }),
+        (b"AddStatic(A) =", LexErr::BadByte { at: 13 }),
+        (b"a & & b", LexErr::BadByte { at: 2 }),
+        (b"# a\n_a", LexErr::BadByte { at: 4 }),
+        (b"\0", LexErr::BadByte { at: 0 }),
+        (b"a \xc3\xa9", LexErr::BadByte { at: 2 }),
+        (b"a <== b", LexErr::BadByte { at: 4 }),
+        (b"1 00", LexErr::BadNumber { at: 2 }),
+        (b"007a", LexErr::BadNumber { at: 0 }),
+        (b"9223372036854775809", LexErr::BadNumber { at: 0 }),
+        (b"a \"abc", LexErr::Unfinished { at: 2 }),
+        (b"\"ab\nc\"", LexErr::Unfinished { at: 0 }),
+        (b"\"a\\", LexErr::Unfinished { at: 0 }),
+        (b"\"a\\\n\"", LexErr::Unfinished { at: 0 }),
+        (b"a \"a\\q", LexErr::BadByte { at: 4 }),
+        (b"\"\\x80\"", LexErr::BadByte { at: 1 }),
+        (b"\"\\x4F\"", LexErr::BadByte { at: 1 }),
+        (b"\"a\rb\"", LexErr::BadByte { at: 2 }),
+        (b"\"\x7f\"", LexErr::BadByte { at: 1 }),
+        (b"\"\t\n", LexErr::BadByte { at: 1 }),
+        (b"= 00", LexErr::BadByte { at: 0 }),
     ];
-    for (text, cause, at) in table {
-        assert_eq!(rt;
-            fault_at_front(text),
-            Some(Fault { cause, at }),
-            "in {text:?}"
-        );
-        assert_eq!(rt;
-            tokens_of(rt.alloc(), text).err(),
-            Some(SyntaxErr::NotBuilt),
-            "in {text:?}"
-        );
-    }
-}
-
-#[test]
-fn one_fault_refuses_the_whole_text(rt: HostRuntime) {
-    let table: [&[u8]; 5] = [b"a = b", b"a <== b", b"a # \xff", b"\xc3(", b"Note 01"];
-    for text in table {
-        assert_eq!(rt;
-            tokens_of(rt.alloc(), text).err(),
-            Some(SyntaxErr::NotBuilt),
-            "in {text:?}"
-        );
+    for (text, err) in table {
+        assert_eq!(rt; tokens_of(rt.alloc(), text).err(), Some(err), "in {text:?}");
     }
 }
 
@@ -168,11 +148,8 @@ fn limits_count_bytes(rt: HostRuntime) -> Result<(), Fail> {
         [token((Lower, 0, 64))].as_slice()
     );
     assert_eq!(rt;
-        fault_at_front(&word),
-        Some(Fault {
-            cause: Cause::TooManyNameBytes,
-            at: 0
-        })
+        tokens_of(rt.alloc(), &word).err(),
+        Some(LexErr::TooManyNameBytes { at: 0 })
     );
 
     let mut literal = Vec::new(rt.alloc());
@@ -188,11 +165,8 @@ fn limits_count_bytes(rt: HostRuntime) -> Result<(), Fail> {
     literal.pop();
     literal.extend_from_slice(b"a\"")?;
     assert_eq!(rt;
-        fault_at_front(&literal),
-        Some(Fault {
-            cause: Cause::TooManyTextBytes,
-            at: 0
-        })
+        tokens_of(rt.alloc(), &literal).err(),
+        Some(LexErr::TooManyTextBytes { at: 0 })
     );
     Ok(())
 }

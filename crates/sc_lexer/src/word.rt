@@ -6,12 +6,11 @@ ghost use Rattle.std.specs.List.{prefix_len};
 ghost use Rattle.std.specs.Prelude.{IfErr, length, ◌≡◌, ◌≤◌};
 
 use crate::front::Front;
-use crate::syntax_err::{Cause, Fault};
+use crate::lex_err::{Cause, Fault};
+use crate::limits::MOST_NAME_BYTES;
 use crate::token::TokenKind;
 
-/// The bytes of the longest word.
-const MOST_NAME_BYTES: usize = 64;
-
+/// Whether the byte is a letter, a digit or `_`.
 fn is_word_byte(byte: u8) -> bool
     ensures { result ≡ is_word_byte byte }
 {

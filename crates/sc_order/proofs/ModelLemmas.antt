@@ -8,7 +8,7 @@ use Rattle.std.proofs.lemmas.Bool.{eqb-true, eq-eqb}
 use Rattle.std.proofs.lemmas.Option.{slice_get-get_or}
 use Rattle.std.proofs.lemmas.List.Elements.{All-nil, All-cons, All-head, All-tail, All-get_or, All-from_get_or, All-weaker}
 use Rattle.std.proofs.lemmas.List.Sums.{AllPass-from_list_all, list_all-from_AllPass}
-use Rattle.sc_theory.specs.Models.{IsModelOf, HasModel, IsCore, literals_at}
+use Rattle.sc_procedure.specs.Models.{IsModelOf, HasModel, IsCore, literals_at}
 use Rattle.sc_order.specs.declared.diff.Diff.{Diff}
 use Rattle.sc_order.specs.Conflict.{IsConflict}
 use Rattle.sc_order.specs.Difference.{Constraints, value_of, is_in_range, is_assignment, meets}

@@ -2,8 +2,8 @@
 use Rattle.std.proofs.Common.{◌≡◌, ◌↔◌, ℕ, ◌-◌, ◌<◌, ◌≤◌, Bool, true, false, not, List, [], ◌∷◌, ◌++◌, length, take, ℤ, pos, IsTrue, refl, sym, ◌∙◌, subst, arith}
 use Rattle.std.specs.Bool.{OnTrue, OnFalse}
 use Rattle.std.proofs.lemmas.List.{length_push, get_or-take, take_at, length-take-le, take-take}
-use Rattle.sc_theory.specs.LitBuf.{LitList}
-use Rattle.sc_theory.specs.Models.{HasModel}
+use Rattle.sc_procedure.specs.LitBuf.{LitList}
+use Rattle.sc_procedure.specs.Models.{HasModel}
 use Rattle.sc_order.specs.declared.diff.Diff.{Diff}
 use Rattle.sc_order.specs.declared.frontier.Reach.{Reach}
 use Rattle.sc_order.specs.Conflict.{IsConflict}

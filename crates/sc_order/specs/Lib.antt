@@ -5,6 +5,7 @@ pub mod Lowering
 pub mod Order
 pub mod Permutation
 pub mod Potential
+pub mod Public
 pub mod Reach
 pub mod Search
 pub mod Zero

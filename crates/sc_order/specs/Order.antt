@@ -1,6 +1,6 @@
 -- What `Order` keeps.
 use Rattle.std.specs.Prelude.{◌≡◌, ℕ, ◌-◌, ◌<◌, Bool, true, cond, List, length, take, ℤ, replicate}
-use Rattle.sc_theory.specs.LitBuf.{LitList}
+use Rattle.sc_procedure.specs.LitBuf.{LitList}
 use Rattle.sc_order.specs.declared.diff.Diff.{Diff}
 use Rattle.sc_order.specs.declared.frontier.Reach.{Reach}
 use Rattle.sc_order.specs.Conflict.{IsConflict}

@@ -6,7 +6,7 @@ use Rattle.std.proofs.Common.{ap}
 use Rattle.std.proofs.lemmas.Bool.{eq-eqb}
 use Rattle.std.proofs.lemmas.List.{length-replicate}
 use Rattle.std.proofs.lemmas.List.Elements.{All-nil}
-use Rattle.sc_theory.specs.Models.{HasModel}
+use Rattle.sc_procedure.specs.Models.{HasModel}
 use Rattle.sc_order.specs.Difference.{value_of, is_in_range, is_assignment, meets}
 
 zeros_in_range : (n : ℕ) → IsTrue (list_all is_in_range (replicate n (pos 0)))

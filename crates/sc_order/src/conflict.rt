@@ -1,12 +1,13 @@
+//! The literals of the negative cycle that a search closes.
 ghost use Rattle.std.specs.Prelude.{◌≡◌, ◌<◌, ◌∷◌, [], ◌++◌, length};
 ghost use Rattle.sc_order.specs.Conflict.{IsConflict, with_edge};
 ghost use Rattle.sc_order.specs.Search.{HasPotential, IsClosedIn};
 
 use crate::frontier::Frontier;
 use crate::search::{Closing, Search};
-use sc_theory::LitBuf;
+use sc_procedure::LitBuf;
 
-// Notes the position of an edge, if it is a literal.
+/// Notes the position of an edge, if it is a literal.
 fn note(positions: &mut LitBuf<u32>, via: u32)
     requires { length positions.old.items < positions.old.capacity }
     ensures items { positions.new.items ≡ with_edge positions.old.items via }

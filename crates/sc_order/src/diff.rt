@@ -1,5 +1,7 @@
+//! The literal of `Order`.
+
 /// The literal `x - y <= c`, where `x` and `y` are numbers of variables.
-#[derive(Clone, Copy)]
+#[derive(Clone, Copy, PartialEq, Eq, Debug)]
 pub struct Diff {
     pub x: u32,
     pub y: u32,

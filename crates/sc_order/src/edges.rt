@@ -1,3 +1,4 @@
+//! The literals as the edges of a graph.
 ghost use Rattle.std.specs.Prelude.{◌≡◌, ◌+◌, ◌-◌, ◌^◌, ◌<◌, ◌≤◌, [], ◌∷◌, ◌++◌, length, take, IsTrue, IfOk};
 ghost use Rattle.sc_order.specs.Difference.{is_literal};
 ghost use Rattle.sc_order.specs.Edges.{literal_at, IsLastFrom};
@@ -10,10 +11,10 @@ use std::marker::Model;
 #[derive(Drop)]
 pub struct Edges {
     literals: Vec<Diff>,
-    // For each literal, one more than the position of the last one before it that leads from the
-    // same vertex, or 0.
+    /// For each literal, one more than the position of the last one before it that leads from the
+    /// same vertex, or 0.
     earlier: Vec<u32>,
-    // For each vertex, one more than the position of the last literal from it, or 0.
+    /// For each vertex, one more than the position of the last literal from it, or 0.
     latest: Vec<u32>,
     limit: usize,
 }

@@ -1,3 +1,4 @@
+//! What a search has reached, with a heap of what waits.
 ghost use Rattle.std.specs.Prelude.{◌≡◌, ◌≢◌, ◌↔◌, ℕ, ◌+◌, ◌-◌, ◌*◌, ◌^◌, ◌<◌, ◌≤◌, length, pos, ◌<ℤ◌, ◌≤ℤ◌, slice_index, slice_set, replicate, IsTrue, IfOk, IfSome, IfNone};
 ghost use Rattle.sc_order.specs.Lowering.{CanMove, Moves};
 ghost use Rattle.sc_order.specs.Reach.{unreached, reach_of, lowered_at, IsHeap, KeepsBeyond, IsAlmostHeapAbove, IsAlmostHeapBelow, JoinsWaiting, IsExplored, SettlesLowest};
@@ -34,7 +35,7 @@ fn no_reach() -> Reach
     }
 }
 
-// Whether the vertex at place `i` is lowered more than the one at place `j`.
+/// Whether the vertex at place `i` is lowered more than the one at place `j`.
 fn is_lower(order: &Permutation, reached: &[Reach], i: usize, j: usize) -> bool
     requires as_long { length reached.now ≡ length order.now.items.items }
     requires i_within { i < length order.now.items.items }
@@ -47,7 +48,7 @@ fn is_lower(order: &Permutation, reached: &[Reach], i: usize, j: usize) -> bool
     first.lowered > second.lowered
 }
 
-// Moves the vertex at place `at` of a heap up, until none above it is lowered less.
+/// Moves the vertex at place `at` of a heap up, until none above it is lowered less.
 fn sift_up(order: &mut Permutation, reached: &[Reach], waiting: usize, mut at: usize)
     requires as_long { length reached.now ≡ length order.old.items.items }
     requires waiting_below { waiting ≤ length order.old.items.items }
@@ -67,7 +68,7 @@ fn sift_up(order: &mut Permutation, reached: &[Reach], waiting: usize, mut at: u
     }
 }
 
-// The child of `at` in a heap of `waiting` vertices that is lowered most.
+/// The child of `at` in a heap of `waiting` vertices that is lowered most.
 fn lower_child(order: &Permutation, reached: &[Reach], waiting: usize, at: usize) -> usize
     requires as_long { length reached.now ≡ length order.now.items.items }
     requires waiting_below { waiting ≤ length order.now.items.items }
@@ -87,7 +88,7 @@ fn lower_child(order: &Permutation, reached: &[Reach], waiting: usize, at: usize
     }
 }
 
-// Moves the first vertex of a heap down, until none below it is lowered more.
+/// Moves the first vertex of a heap down, until none below it is lowered more.
 fn sift_down(order: &mut Permutation, reached: &[Reach], waiting: usize)
     requires as_long { length reached.now ≡ length order.old.items.items }
     requires waiting_below { waiting ≤ length order.old.items.items }
@@ -107,7 +108,7 @@ fn sift_down(order: &mut Permutation, reached: &[Reach], waiting: usize)
     }
 }
 
-// Puts a vertex that is not reached behind those that wait.
+/// Puts a vertex that is not reached behind those that wait.
 fn join(order: &mut Permutation, waiting: usize, touched: usize, v: u32)
     requires waiting_below { waiting ≤ touched }
     requires within { v < length order.old.items.items }
@@ -120,7 +121,7 @@ fn join(order: &mut Permutation, waiting: usize, touched: usize, v: u32)
     order.exchange(touched, waiting);
 }
 
-// Makes the first `touched` vertices in order ones that the search has not reached.
+/// Makes the first `touched` vertices in order ones that the search has not reached.
 fn forget(reached: &mut Vec<Reach>, order: &Permutation, touched: usize)
     requires as_long { length reached.old.items ≡ length order.now.items.items }
     requires within { touched ≤ length order.now.items.items }
@@ -141,7 +142,7 @@ fn forget(reached: &mut Vec<Reach>, order: &Permutation, touched: usize)
 #[derive(Drop)]
 pub struct Frontier {
     reached: Vec<Reach>,
-    // First those that wait, as a heap, then those that are settled, then the others.
+    /// First those that wait, as a heap, then those that are settled, then the others.
     order: Permutation,
     waiting: usize,
     touched: usize,

@@ -1,3 +1,4 @@
+//! The values after a search.
 ghost use Rattle.std.specs.Prelude.{◌≡◌, ◌≢◌, ℕ, ◌-◌, ◌^◌, ◌<◌, ◌≤◌, length, pos, neg_ℤ, ◌+ℤ◌, ◌-ℤ◌, ◌≤ℤ◌, slice_index};
 ghost use Rattle.sc_order.specs.Lowering.{CanMove, Moves};
 ghost use Rattle.sc_order.specs.Reach.{unreached, reach_of};
@@ -5,7 +6,7 @@ ghost use Rattle.sc_order.specs.Reach.{unreached, reach_of};
 use crate::frontier::Reach;
 use crate::permutation::Permutation;
 
-// The value of a vertex after it is lowered and all are raised.
+/// The value of a vertex after it is lowered and all are raised.
 fn moved(value: i64, reach: Reach, rise: i128) -> i64
     requires lowered_low { pos 0 ≤ℤ reach.lowered }
     requires lowered_high { reach.lowered ≤ℤ pos (2 ^ 67) }

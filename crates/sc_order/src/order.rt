@@ -1,11 +1,12 @@
+//! The theory of difference constraints.
 ghost use Rattle.std.specs.Prelude.{◌≡◌, ◌+◌, ◌-◌, ◌^◌, ◌<◌, ◌≤◌, ◌↔◌, ◌∷◌, [], ◌++◌, length, take, IsTrue, IfOk};
-ghost use Rattle.sc_theory.specs.Models.{IsModelOf, HasModel, IsCore};
+ghost use Rattle.sc_procedure.specs.Models.{IsModelOf, HasModel, IsCore};
 
 use crate::diff::Diff;
 use crate::edges::Edges;
 use crate::frontier::Frontier;
 use crate::repair::repair;
-use sc_theory::{LitBuf, Theory};
+use sc_procedure::{LitBuf, Theory};
 use sqlite_items::Items;
 use std::alloc::{AllocError, Global};
 use std::marker::Model;
@@ -21,11 +22,11 @@ use std::marker::Model;
 #[derive(Drop)]
 pub struct Order {
     edges: Edges,
-    // A model of the literals, or where they are refuted of all but the last one.
+    /// A model of the literals, or where they are refuted of all but the last one.
     values: Vec<i64>,
-    // Nothing is reached between calls.
+    /// Nothing is reached between calls.
     frontier: Frontier,
-    // Why the literals have no model, where they are refuted.
+    /// Why the literals have no model, where they are refuted.
     core: LitBuf<u32>,
     refuted: bool,
     alloc: Global,
@@ -66,7 +67,7 @@ impl Order {
     }
 }
 
-// Makes `to` hold what `from` holds.
+/// Makes `to` hold what `from` holds.
 fn copy(from: &LitBuf<u32>, to: &mut LitBuf<u32>)
     requires { length from.now.items ≤ to.old.capacity }
     ensures items { to.new.items ≡ from.now.items }

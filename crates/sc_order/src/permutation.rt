@@ -1,3 +1,4 @@
+//! The numbers below a bound in some order.
 ghost use Rattle.std.specs.Prelude.{◌≡◌, ℕ, ◌^◌, ◌<◌, length, slice_index, IfOk};
 ghost use Rattle.sc_order.specs.Permutation.{IsPaired, Exchanges};
 
@@ -11,7 +12,7 @@ pub struct Permutation {
     ghost paired: { IsPaired items.items places.items },
 }
 
-// The numbers below `n`, in turn.
+/// The numbers below `n`, in turn.
 fn in_turn(alloc: Global, n: usize) -> Result<Vec<u32>, AllocError>
     requires { n < 2 ^ 32 }
     ensures length { IfOk result (λ v. length v.items ≡ n) }

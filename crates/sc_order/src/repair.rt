@@ -1,3 +1,4 @@
+//! One literal more: the values repaired, or a conflict.
 ghost use Rattle.std.specs.Prelude.{◌≡◌, ◌<◌, ◌∷◌, [], ◌++◌, length, pos, ◌<ℤ◌, IsTrue, replicate};
 ghost use Rattle.std.specs.Bool.{OnTrue, OnFalse};
 ghost use Rattle.sc_order.specs.Conflict.{IsConflict};
@@ -9,9 +10,9 @@ use crate::diff::Diff;
 use crate::edges::Edges;
 use crate::frontier::Frontier;
 use crate::search::{Search, excess};
-use sc_theory::LitBuf;
+use sc_procedure::LitBuf;
 
-// The goal alone has no model, if both its variables are the same.
+/// The goal alone has no model, if both its variables are the same.
 fn refute_alone(edges: &Edges, goal: Diff, core: &mut LitBuf<u32>)
     requires same { goal.x ≡ goal.y }
     requires negative { goal.c <ℤ pos 0 }

@@ -1,3 +1,4 @@
+//! How far each variable has to be lowered.
 ghost use Rattle.std.specs.Prelude.{◌≡◌, ◌≢◌, ◌+◌, ◌-◌, ◌^◌, ◌<◌, ◌≤◌, length, pos, neg_ℤ, ◌+ℤ◌, ◌-ℤ◌, ◌≤ℤ◌, ◌<ℤ◌, IsTrue, IfSome, IfNone, replicate};
 ghost use Rattle.std.specs.Bool.{OnTrue, OnFalse};
 ghost use Rattle.sc_order.specs.Difference.{value_of, is_literal};
@@ -20,7 +21,7 @@ pub struct Edge {
     pub via: u32,
 }
 
-// The value of a vertex, with room to add and subtract.
+/// The value of a vertex, with room to add and subtract.
 fn value_at(values: &[i64], v: u32) -> i128
     requires { v < length values.now }
     ensures value { result ≡ value_of values.now v }
@@ -41,7 +42,7 @@ pub fn excess(values: &[i64], literal: Diff) -> i128
     x - (y + literal.c)
 }
 
-// By how much the end of an edge has to be lowered, since its start is.
+/// By how much the end of an edge has to be lowered, since its start is.
 fn asked(frontier: &Frontier, values: &[i64], edge: Edge) -> i128
     requires as_long { length frontier.now ≡ length values.now }
     requires from_within { edge.from < length values.now }
@@ -58,8 +59,8 @@ fn asked(frontier: &Frontier, values: &[i64], edge: Edge) -> i128
     frontier.at(edge.from).lowered - slack
 }
 
-// Lowers the end of an edge as far as the edge asks. Says whether that would be the vertex `tail`,
-// which is not lowered.
+/// Lowers the end of an edge as far as the edge asks. Says whether that would be the vertex `tail`,
+/// which is not lowered.
 fn lower_end(frontier: &mut Frontier, values: &[i64], tail: u32, edge: Edge) -> bool
     requires as_long { length frontier.old ≡ length values.now }
     requires from_within { edge.from < length values.now }
@@ -106,7 +107,7 @@ pub struct Search<'a> {
 impl Search<'_> {
     ghost use Rattle.sc_order.specs.Search.{HasPotential, IsEdgeIn, IsRelaxingIn, MeetsListedIn, MeetsRangeIn, ClosesIn, IsBetweenIn, IsRepairedIn, IsClosedIn};
 
-    // The literal before place `via` as an edge.
+    /// The literal before place `via` as an edge.
     fn listed_edge(&self, via: u32) -> Edge
         requires potential { HasPotential self.now }
         requires some { 0 < via }
@@ -125,7 +126,7 @@ impl Search<'_> {
         }
     }
 
-    // The least number of the range as an edge: 0 is at most a value and 2^63.
+    /// The least number of the range as an edge: 0 is at most a value and 2^63.
     fn low_edge(&self, from: u32) -> Edge
         requires potential { HasPotential self.now }
         requires within { from < length self.now.values.now }
@@ -140,7 +141,7 @@ impl Search<'_> {
         }
     }
 
-    // The greatest number of the range as an edge: a value is at most 0 and 2^63 - 1.
+    /// The greatest number of the range as an edge: a value is at most 0 and 2^63 - 1.
     fn high_edge(&self, to: u32) -> Edge
         requires potential { HasPotential self.now }
         requires within { to < length self.now.values.now }
@@ -155,8 +156,8 @@ impl Search<'_> {
         }
     }
 
-    // Lowers the end of an edge from the vertex that was settled last. Says whether it would be the
-    // tail of the goal.
+    /// Lowers the end of an edge from the vertex that was settled last. Says whether it would be the
+    /// tail of the goal.
     fn relax(&self, frontier: &mut Frontier, edge: Edge) -> bool
         requires potential { HasPotential self.now }
         requires edge { IsEdgeIn self.now edge }
@@ -169,8 +170,8 @@ impl Search<'_> {
         lower_end(frontier, self.values, self.goal.y, edge)
     }
 
-    // Relaxes the literals that lead from a vertex. Answers one that would lower the tail of the
-    // goal, if one does.
+    /// Relaxes the literals that lead from a vertex. Answers one that would lower the tail of the
+    /// goal, if one does.
     fn relax_listed(&self, frontier: &mut Frontier, from: u32) -> Option<u32>
         requires potential { HasPotential self.now }
         requires relaxing { IsRelaxingIn self.now frontier.old from }
@@ -190,8 +191,8 @@ impl Search<'_> {
         None
     }
 
-    // Relaxes the least number of the range from a vertex. Says whether it would lower the tail of
-    // the goal.
+    /// Relaxes the least number of the range from a vertex. Says whether it would lower the tail of
+    /// the goal.
     fn relax_low(&self, frontier: &mut Frontier, from: u32) -> bool
         requires potential { HasPotential self.now }
         requires relaxing { IsRelaxingIn self.now frontier.old from }
@@ -204,8 +205,8 @@ impl Search<'_> {
         self.relax(frontier, edge)
     }
 
-    // Relaxes the greatest number of the range of each vertex, from vertex 0. Says whether one would
-    // lower the tail of the goal.
+    /// Relaxes the greatest number of the range of each vertex, from vertex 0. Says whether one would
+    /// lower the tail of the goal.
     fn relax_high(&self, frontier: &mut Frontier) -> bool
         requires potential { HasPotential self.now }
         requires relaxing { IsRelaxingIn self.now frontier.old 0 }
@@ -225,8 +226,8 @@ impl Search<'_> {
         false
     }
 
-    // Relaxes the bounds of the range from a vertex. Says whether one would lower the tail of the
-    // goal.
+    /// Relaxes the bounds of the range from a vertex. Says whether one would lower the tail of the
+    /// goal.
     fn relax_range(&self, frontier: &mut Frontier, from: u32) -> bool
         requires potential { HasPotential self.now }
         requires relaxing { IsRelaxingIn self.now frontier.old from }
@@ -247,8 +248,8 @@ impl Search<'_> {
         false
     }
 
-    // Relaxes all edges from the vertex that was settled last. Answers one that would lower the
-    // tail of the goal, if one does.
+    /// Relaxes all edges from the vertex that was settled last. Answers one that would lower the
+    /// tail of the goal, if one does.
     fn relax_all(&self, frontier: &mut Frontier, from: u32) -> Option<u32>
         requires potential { HasPotential self.now }
         requires relaxing { IsRelaxingIn self.now frontier.old from }
@@ -267,7 +268,7 @@ impl Search<'_> {
         None
     }
 
-    // Lowers the first variable of the goal until it meets the goal.
+    /// Lowers the first variable of the goal until it meets the goal.
     fn begin(&self, frontier: &mut Frontier)
         requires potential { HasPotential self.now }
         requires fits { IsTrue (is_literal self.now.edges.now.variables self.now.goal) }

@@ -7,3 +7,4 @@ pub mod Tokens
 pub mod Turns
 pub mod Unplaced
 pub mod WholeTexts
+pub mod Tokenless

@@ -1,8 +1,8 @@
 -- What reading the pieces of a text to their end says of the text.
 use Rattle.std.proofs.Common.{◌≡◌, ℕ, List, ap, sym, ◌∙◌, subst}
 use Rattle.std.specs.Prelude.{Option, Some, Result, Ok, Err, IfOk, IsErrOf}
-use Rattle.sc_lexer.specs.declared.syntax_err.SyntaxErr.{SyntaxErr}
-use Rattle.sc_lexer.specs.declared.syntax_err.SyntaxErr.TheVariants.{NotBuilt, OutOfMemory}
+use Rattle.sc_parser.specs.declared.syntax_err.SyntaxErr.{SyntaxErr}
+use Rattle.sc_parser.specs.declared.syntax_err.SyntaxErr.TheVariants.{NotBuilt, OutOfMemory}
 use Rattle.sc_lexer.specs.declared.token.Token.{Token}
 use Rattle.sc_lexer.specs.Lexes.{Lexes}
 use Rattle.sc_ast.specs.Pieces.{Piece, pieces_of}

@@ -1,2 +1,4 @@
+pub mod Public
 pub mod Readers
 pub mod Reading
+pub mod Refusals

@@ -2,8 +2,8 @@
 use Rattle.std.specs.Prelude.{◌≡◌, ℕ, Bool, not, ◌&&◌, List, [], ◌∷◌, Option, Some, None, Result, Ok, Err, option_and_then, if◌then◌else◌}
 use Rattle.std.specs.Str.{bytes_eq}
 use denote.Enum.Bare.{sameb}
-use Rattle.sc_lexer.specs.declared.syntax_err.SyntaxErr.{SyntaxErr}
-use Rattle.sc_lexer.specs.declared.syntax_err.SyntaxErr.TheVariants.{NotBuilt, OutOfMemory}
+use Rattle.sc_parser.specs.declared.syntax_err.SyntaxErr.{SyntaxErr}
+use Rattle.sc_parser.specs.declared.syntax_err.SyntaxErr.TheVariants.{NotBuilt, OutOfMemory}
 use Rattle.sc_lexer.specs.contracts.token.TokenKind.{the_type}
 use Rattle.sc_lexer.specs.declared.token.TokenKind.{TokenKind}
 use Rattle.sc_lexer.specs.declared.token.TokenKind.TheVariants.{Upper, Lower}

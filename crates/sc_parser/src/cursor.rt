@@ -10,8 +10,9 @@ ghost use Rattle.sc_parser.specs.Readers as spec;
 ghost use Rattle.sc_parser.specs.Readers.{Reads, Sees, Takes};
 
 use crate::reserved::{is_reserved_lower, is_reserved_upper};
+use crate::syntax_err::SyntaxErr;
 use sc_ast::Name;
-use sc_lexer::{SyntaxErr, Token, TokenKind, bytes_of};
+use sc_lexer::{Token, TokenKind, bytes_of};
 use std::alloc::Global;
 use std::marker::Model;
 

@@ -8,6 +8,7 @@
 //! |---|---|
 //! | `cursor` | `Cursor`, the tokens that are left to read |
 //! | `reserved` | the reserved words |
+//! | `syntax_err` | `SyntaxErr`, why a text has no tree |
 //! | `policies` | the productions of items, sets and policies |
 //! | `models` | the productions of types, fields, models and specifications |
 //! | `commands` | the productions of commands and scripts |
@@ -21,10 +22,12 @@ mod laws;
 mod models;
 mod policies;
 mod reserved;
+mod syntax_err;
 #[cfg(test)]
 mod tests;
 mod texts;
 
 pub use laws::{one_tree, same_tree};
-pub use sc_lexer::{SyntaxErr, Token, TokenKind, lex};
+pub use sc_lexer::{LexErr, Token, TokenKind, lex};
+pub use syntax_err::SyntaxErr;
 pub use texts::{parse_script, parse_spec};

@@ -5,8 +5,9 @@ ghost use Rattle.sc_parser.specs.Readers.{Reads};
 ghost use Rattle.sc_parser.specs.Reading as spec;
 
 use crate::cursor::Cursor;
+use crate::syntax_err::SyntaxErr;
 use sc_ast::{Item, Policy, SetExpr};
-use sc_lexer::{SyntaxErr, TokenKind};
+use sc_lexer::TokenKind;
 use sqlite_items::Items;
 use std::alloc::Global;
 

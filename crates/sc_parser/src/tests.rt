@@ -1,3 +1,5 @@
+//! Texts whose trees, or whose refusals, are known.
+
 mod limits;
 mod refusals;
 mod shown;

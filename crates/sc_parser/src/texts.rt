@@ -11,8 +11,9 @@ ghost use Rattle.sc_parser.specs.Reading as spec;
 ghost use Rattle.sc_parser.specs.Reading.{whole};
 
 use crate::cursor::Cursor;
+use crate::syntax_err::SyntaxErr;
 use sc_ast::{Script, Spec};
-use sc_lexer::{SyntaxErr, Token, lex};
+use sc_lexer::{Token, lex};
 use std::alloc::Global;
 
 fn spec_of(alloc: Global, mut cursor: Cursor<'_>) -> Result<Spec, SyntaxErr>

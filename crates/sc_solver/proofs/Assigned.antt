@@ -6,8 +6,8 @@ use Rattle.std.specs.Option.{option_map, unwrap_or, IfSome}
 use Rattle.std.proofs.lemmas.Bool.{cases_eq, cases_Bool}
 use Rattle.std.proofs.lemmas.List.Folds.{list_any-from_Any}
 use Rattle.std.proofs.lemmas.List.FromFn.{get_or-map-range_with_len, length-map-range_with_len}
-use Rattle.sc_theory.proofs.Models.{HasModel-among}
-use Rattle.sc_theory.specs.Models.{HasModel}
+use Rattle.sc_procedure.proofs.Models.{HasModel-among}
+use Rattle.sc_procedure.specs.Models.{HasModel}
 use Rattle.sc_solver.specs.declared.literal.PLit.{PLit}
 use Rattle.sc_solver.specs.declared.trail.Entry.{Entry}
 use Rattle.sc_solver.specs.Assignment.{value_at, signed, literal_value, meets_clause, theory_literals, IsLawful, SameLiterals}

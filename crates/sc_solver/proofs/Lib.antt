@@ -3,17 +3,17 @@ pub mod ClauseStates
 pub mod CollectedClauses
 pub mod Droppings
 pub mod Entailment
+pub mod Extensions
 pub mod Generations
-pub mod LearnedScans
+pub mod Looks
 pub mod MarkedTrails
-pub mod MetClauses
 pub mod Parts
 pub mod Places
 pub mod Problems
 pub mod Roots
 pub mod Scans
 pub mod Scores
-pub mod Searches
+pub mod Contexts
 pub mod SetMarks
 pub mod Shown
 pub mod TakenBack
@@ -21,3 +21,4 @@ pub mod TheoryLists
 pub mod Thinning
 pub mod Trails
 pub mod WorkLeft
+pub mod ValuesSet

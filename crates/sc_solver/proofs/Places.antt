@@ -6,13 +6,13 @@ use Rattle.std.proofs.lemmas.Bool.{cases_eq, cases_lt, cases_Bool}
 use Rattle.std.proofs.lemmas.List.{append-nil, length-append, get_or_append_left, get_or-append_right}
 use Rattle.std.proofs.lemmas.List.Elements.{All-nil, All-cons, All-head, All-tail}
 use Rattle.std.proofs.lemmas.Option.{slice_get_within, get_or_from_slice_get}
-use Rattle.sc_theory.specs.Models.{IsCore, literals_at}
-use Rattle.sc_theory.proofs.Models.{IsCore-refutes}
+use Rattle.sc_procedure.specs.Models.{IsCore, literals_at}
+use Rattle.sc_procedure.proofs.Models.{IsCore-refutes}
 use Rattle.sc_solver.specs.declared.literal.PLit.{PLit}
 use Rattle.sc_solver.specs.declared.trail.Entry.{Entry}
 use Rattle.sc_solver.specs.Assignment.{value_at, literal_value, negated, theory_literals}
 use Rattle.sc_solver.specs.Marks.{AgreesMarked, ForcesMarked}
-use Rattle.sc_solver.specs.SearchView.{SearchView, Lawful, IsKeptSearch}
+use Rattle.sc_solver.specs.ContextView.{ContextView, Lawful, IsKeptContext}
 use Rattle.sc_solver.specs.Trail.{value_in, IsTrail, literal_of, trail_literals, trail_places}
 use Rattle.sc_solver.proofs.Entailment.{literal_value-negated}
 use Rattle.sc_solver.proofs.Trails.{value_in-here, value_in-other}
@@ -108,7 +108,7 @@ literals_at-All P Q xs [] f h = All-nil P
 literals_at-All P Q xs (p ∷ ps) f h =
     cons_option-All P (slice_get xs p) (literals_at xs ps) (λ x e. f p x (All-head Q p ps h) e) (literals_at-All P Q xs ps f (All-tail Q p ps h))
 
-module _ {T M L : Type 0} (literals : T → List L) (capacity : T → ℕ) (takes : T → L → Bool) (models : T → M → Bool) (meets : M → L → Bool) (s : SearchView T L) (places : List ℕ) (places_room core_room : ℕ) (kept : IsKeptSearch literals capacity takes models meets s places places_room core_room) where
+module _ {T M L : Type 0} (literals : T → List L) (capacity : T → ℕ) (takes : T → L → Bool) (models : T → M → Bool) (meets : M → L → Bool) (s : ContextView T L) (places : List ℕ) (places_room core_room : ℕ) (kept : IsKeptContext literals capacity takes models meets s places places_room core_room) where
   -- the literals of a conflict are among those of an assignment that has the marked ones and the refused one
   conflict_among : (last : List L) (marks : List Bool) (positions : List ℕ) (a : List Bool) → All (Contains (theory_literals a s.atoms)) last → length a ≡ s.vars → AgreesMarked a marks s.entries → All (λ p. p < length places → IsTrue (value_at marks (slice_index places p))) positions
       → All (Contains (theory_literals a s.atoms)) (literals_at (literals s.theory ++ last) positions)

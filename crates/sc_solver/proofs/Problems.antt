@@ -8,15 +8,15 @@ use Rattle.sc_solver.specs.declared.reason.Reason.{Reason}
 use Rattle.sc_solver.specs.Learned.{LearnedView}
 use Rattle.sc_solver.specs.LearnerView.{LearnerView}
 use Rattle.sc_solver.specs.Marks.{ForcesMarked, IsRefutedMarked, IsAsStrong, HasMarks}
-use Rattle.sc_solver.specs.SearchView.{SearchView, Lawful, SameProblem}
+use Rattle.sc_solver.specs.ContextView.{ContextView, Lawful, SameProblem}
 use Rattle.sc_solver.specs.Trail.{Forces, IsRefuted}
 use Rattle.sc_solver.proofs.MarkedTrails.{AgreesMarked-fewer, refuted_both_marked}
 
 module _ {T M L : Type 0} {capacity : T → ℕ} {takes : T → L → Bool} {models : T → M → Bool} where
-  pub SameProblem-refl : (s : SearchView T L) → SameProblem capacity takes models s s
+  pub SameProblem-refl : (s : ContextView T L) → SameProblem capacity takes models s s
   SameProblem-refl s = record { vars = refl; clauses = refl; atoms = refl; capacity_is = refl; takes_is = refl; models_is = refl }
 
-  pub SameProblem-sym : {a b : SearchView T L} → SameProblem capacity takes models a b → SameProblem capacity takes models b a
+  pub SameProblem-sym : {a b : ContextView T L} → SameProblem capacity takes models a b → SameProblem capacity takes models b a
   SameProblem-sym h = record {
     vars = sym h.vars;
     clauses = sym h.clauses;
@@ -26,7 +26,7 @@ module _ {T M L : Type 0} {capacity : T → ℕ} {takes : T → L → Bool} {mod
     models_is = sym h.models_is;
   }
 
-  pub SameProblem-trans : {a b c : SearchView T L} → SameProblem capacity takes models a b → SameProblem capacity takes models b c → SameProblem capacity takes models a c
+  pub SameProblem-trans : {a b c : ContextView T L} → SameProblem capacity takes models a b → SameProblem capacity takes models b c → SameProblem capacity takes models a c
   SameProblem-trans h k = record {
     vars = k.vars ∙ h.vars;
     clauses = k.clauses ∙ h.clauses;
@@ -36,7 +36,7 @@ module _ {T M L : Type 0} {capacity : T → ℕ} {takes : T → L → Bool} {mod
     models_is = k.models_is ∙ h.models_is;
   }
 
-  module _ (meets : M → L → Bool) {old new : SearchView T L} (same : SameProblem capacity takes models old new) where
+  module _ (meets : M → L → Bool) {old new : ContextView T L} (same : SameProblem capacity takes models old new) where
     pub Lawful-before : (a : List Bool) → Lawful models meets new a → Lawful models meets old a
     Lawful-before a h = record {
       one_each = h.one_each ∙ same.vars;
@@ -64,7 +64,7 @@ module _ {T M L : Type 0} {capacity : T → ℕ} {takes : T → L → Bool} {mod
         (λ a lawful agrees. opposite a lawful (rw (← kept) (AgreesMarked-fewer a more fewer new.entries has agrees)))
 
 -- what is forced lasts as marks that the others force are taken away, and levels in which nothing is marked
-pub forced_thinned : {T M L : Type 0} {capacity : T → ℕ} {takes : T → L → Bool} {models : T → M → Bool} (meets : M → L → Bool) {first second third : SearchView T L} → SameProblem capacity takes models first second → SameProblem capacity takes models second third → (marks thinned : List Bool) (vars : ℕ) (l : PLit)
+pub forced_thinned : {T M L : Type 0} {capacity : T → ℕ} {takes : T → L → Bool} {models : T → M → Bool} (meets : M → L → Bool) {first second third : ContextView T L} → SameProblem capacity takes models first second → SameProblem capacity takes models second third → (marks thinned : List Bool) (vars : ℕ) (l : PLit)
     → ForcesMarked (Lawful models meets first) marks second.entries l → IsAsStrong (Lawful models meets second) second.entries thinned marks → IsDropped thinned vars second.entries third.entries → ForcesMarked (Lawful models meets third) thinned third.entries l
 forced_thinned meets before after marks thinned vars l forced strong gone a lawful agrees =
     let at_second = Lawful-before meets after a lawful in

@@ -1,6 +1,7 @@
 -- What a scan of all clauses shows of a search.
-use Rattle.std.proofs.Common.{◌≡◌, ◌≢◌, ℕ, ◌<◌, Bool, List, Some, None, IsTrue, refl}
+use Rattle.std.proofs.Common.{◌≡◌, ◌≢◌, ℕ, ◌<◌, Bool, List, Option, Some, None, IsTrue, refl, sym}
 use Rattle.std.specs.List.{All, slice_get}
+use Rattle.std.specs.Option.{IfSome}
 use Rattle.std.proofs.lemmas.List.Elements.{All-contains}
 use Rattle.std.proofs.lemmas.Option.{slice_get_within, get_or_from_slice_get}
 use Rattle.sc_solver.specs.declared.literal.PLit.{PLit}
@@ -10,11 +11,16 @@ use Rattle.sc_solver.specs.declared.units.ClauseState.TheVariants.{Open, Conflic
 use Rattle.sc_solver.specs.Assignment.{meets_clause}
 use Rattle.sc_solver.specs.Clauses.{IsWithin}
 use Rattle.sc_solver.specs.Marks.{IsEntailed}
-use Rattle.sc_solver.specs.Scanned.{IsNext, IsScanned, IsScannedLearned}
-use Rattle.sc_solver.specs.SearchView.{SearchView, Lawful, IsSearch}
+use Rattle.sc_solver.specs.Scanned.{IsNext, IsScanned, IsMetIn}
+use Rattle.sc_solver.specs.ContextView.{ContextView, Lawful, IsContext}
 use Rattle.sc_solver.specs.Steps.{IsSolved}
 use Rattle.sc_solver.specs.Trail.{value_in}
-use Rattle.sc_solver.specs.Units.{IsUnit, IsOpen, IsFoundIn}
+use Rattle.sc_solver.specs.Units.{IsUnit, IsOpen, IsFoundIn, IsFoundWithin}
+use Rattle.sc_solver.specs.declared.reason.Reason.{Reason}
+use Rattle.sc_solver.specs.declared.reason.Reason.TheVariants.{Given, Learned, Unknown}
+use Rattle.sc_solver.specs.Learned.{LearnedView, clause_of, learned_list}
+use Rattle.sc_solver.specs.Watches.{IsMet, clause_in}
+use Rattle.sc_solver.proofs.Generations.{clause_of-there}
 use Rattle.sc_solver.proofs.Assigned.{assigned_is_lawful, assigned_is_shown}
 use Rattle.sc_solver.proofs.Entailment.{conflict_not_met, unit_is_true}
 
@@ -29,35 +35,57 @@ entailed_next Lawful vars es clause l entailed within u = record {
   forced = λ a lawful agrees. unit_is_true a es clause l agrees u (entailed a lawful);
 }
 
--- a learned clause that is met in a state, where there is one
-pub learned_shows : (Lawful : List Bool → Type 0) (vars : ℕ) (es : List Entry) (learned : List (List PLit)) (place : ℕ) (state : ClauseState) → All (IsEntailed Lawful) learned → All (IsWithin vars) learned → IsFoundIn es learned state place → IsScannedLearned Lawful vars es state
-learned_shows Lawful vars es learned place Conflict entailed within h =
-    λ a lawful agrees. conflict_not_met a es h.clause agrees h.is (All-at (IsEntailed Lawful) learned place h.clause entailed h.here a lawful)
-learned_shows Lawful vars es learned place (UnitLiteral l) entailed within h =
-    entailed_next Lawful vars es h.clause l (All-at (IsEntailed Lawful) learned place h.clause entailed h.here) (All-at (IsWithin vars) learned place h.clause within h.here) h.is
-learned_shows Lawful vars es learned place Open entailed within h = tt
+-- a clause that follows and is met in a state
+pub met_shows : (Lawful : List Bool → Type 0) (vars : ℕ) (es : List Entry) (clause : Option (List PLit)) (state : ClauseState) → IfSome clause (IsEntailed Lawful) → IfSome clause (IsWithin vars) → IsMet es clause state → IsMetIn Lawful vars es state
+met_shows Lawful vars es None Conflict entailed within h = absurd h
+met_shows Lawful vars es None (UnitLiteral l) entailed within h = absurd h
+met_shows Lawful vars es (Some clause) Conflict entailed within h =
+    λ a lawful agrees. conflict_not_met a es clause agrees h (entailed a lawful)
+met_shows Lawful vars es (Some clause) (UnitLiteral l) entailed within h = entailed_next Lawful vars es clause l entailed within h
+met_shows Lawful vars es clause Open entailed within h = tt
 
--- a conflict or a unit among the learned clauses is one for the search
-pub scanned_from_learned : {T M L : Type 0} (literals : T → List L) (models : T → M → Bool) (meets : M → L → Bool) (s : SearchView T L) (state : ClauseState) → state ≢ Open → IsScannedLearned (Lawful models meets s) s.vars s.entries state → IsScanned literals models meets state s
-scanned_from_learned literals models meets s Conflict closed h = h
-scanned_from_learned literals models meets s (UnitLiteral l) closed h = h
-scanned_from_learned literals models meets s Open closed h = absurd (closed refl)
+if_some : {X : Type 0} (P : X → Type 0) (o : Option X) → ((x : X) → o ≡ Some x → P x) → IfSome o P
+if_some P None h = tt
+if_some P (Some x) h = h x refl
 
-module _ {T M L : Type 0} (models : T → M → Bool) (meets : M → L → Bool) (s : SearchView T L) where
+-- what holds of all clauses holds of that of a reason
+all_by : (P : List PLit → Type 0) (given : List (List PLit)) (learned : LearnedView) (reason : Reason) → All P given → All P (learned_list learned) → IfSome (clause_in given (Some learned) reason) P
+all_by P given learned (Given place) h k = if_some P (slice_get given place) (λ x e. All-at P given place x h e)
+all_by P given learned (Learned slot) h k = if_some P (clause_of learned slot) (λ x e. All-contains P (learned_list learned) x k (clause_of-there learned slot x (sym e)))
+all_by P given learned Unknown h k = tt
+
+module _ {T M L : Type 0} (models : T → M → Bool) (meets : M → L → Bool) (s : ContextView T L) where
   -- each lawful assignment meets a clause that is searched
   pub given_entailed : (k : ℕ) (clause : List PLit) → slice_get s.clauses k ≡ Some clause → IsEntailed (Lawful models meets s) clause
   given_entailed k clause e a lawful = All-at (λ c. IsTrue (meets_clause a c)) s.clauses k clause lawful.meets_each e
 
-  found_solved : (literals : T → List L) (capacity : T → ℕ) (takes : T → L → Bool) → IsSearch literals capacity takes models meets s → All (IsOpen s.entries) s.clauses → ((v : ℕ) → v < s.vars → value_in s.entries v ≢ None) → IsSolved literals models meets s
+  found_solved : (literals : T → List L) (capacity : T → ℕ) (takes : T → L → Bool) → IsContext literals capacity takes models meets s → All (IsOpen s.entries) s.clauses → ((v : ℕ) → v < s.vars → value_in s.entries v ≢ None) → IsSolved literals models meets s
   found_solved literals capacity takes h found set = record {
     lawful = assigned_is_lawful s.vars s.entries set (models s.theory) meets s.clauses s.atoms h.within found (rw (← h.in_step) h.has_model);
     shown = rw h.in_step (assigned_is_shown s.vars s.entries set s.atoms h.is_trail);
     has_model = h.has_model;
+    held = record { set_each = set; open_each = found };
   }
 
-  pub search_scanned : (literals : T → List L) (capacity : T → ℕ) (takes : T → L → Bool) (state : ClauseState) (place : ℕ) → IsSearch literals capacity takes models meets s → IsFoundIn s.entries s.clauses state place → IsScanned literals models meets state s
-  search_scanned literals capacity takes Conflict place h found =
+  pub context_scanned : (literals : T → List L) (capacity : T → ℕ) (takes : T → L → Bool) (state : ClauseState) (place : ℕ) → IsContext literals capacity takes models meets s → IsFoundIn s.entries s.clauses state place → IsScanned literals models meets state s
+  context_scanned literals capacity takes Conflict place h found =
       λ a lawful agrees. conflict_not_met a s.entries found.clause agrees found.is (given_entailed place found.clause found.here a lawful)
-  search_scanned literals capacity takes (UnitLiteral l) place h found =
+  context_scanned literals capacity takes (UnitLiteral l) place h found =
       entailed_next (Lawful models meets s) s.vars s.entries found.clause l (given_entailed place found.clause found.here) (All-at (IsWithin s.vars) s.clauses place found.clause h.within found.here) found.is
-  search_scanned literals capacity takes Open place h found = λ set. found_solved literals capacity takes h found set
+  context_scanned literals capacity takes Open place h found = λ set. found_solved literals capacity takes h found set
+
+  pub within_shows : (start end place : ℕ) (state : ClauseState) → All (IsWithin s.vars) s.clauses → IsFoundWithin s.entries s.clauses start end state place → IsMetIn (Lawful models meets s) s.vars s.entries state
+  within_shows start end place Conflict within found =
+      λ a lawful agrees. conflict_not_met a s.entries found.clause agrees found.is (given_entailed place found.clause found.here a lawful)
+  within_shows start end place (UnitLiteral l) within found =
+      entailed_next (Lawful models meets s) s.vars s.entries found.clause l (given_entailed place found.clause found.here) (All-at (IsWithin s.vars) s.clauses place found.clause within found.here) found.is
+  within_shows start end place Open within found = tt
+
+  -- what is met by the clause of a reason
+  pub reason_shows : (learned : LearnedView) (reason : Reason) (state : ClauseState) → All (IsWithin s.vars) s.clauses → All (IsEntailed (Lawful models meets s)) (learned_list learned) → All (IsWithin s.vars) (learned_list learned)
+      → IsMet s.entries (clause_in s.clauses (Some learned) reason) state → IsMetIn (Lawful models meets s) s.vars s.entries state
+  reason_shows learned reason state given_within entailed within met =
+      met_shows (Lawful models meets s) s.vars s.entries (clause_in s.clauses (Some learned) reason) state
+      (all_by (IsEntailed (Lawful models meets s)) s.clauses learned reason (λ k d h a lawful. lawful.meets_each k d h) entailed)
+      (all_by (IsWithin s.vars) s.clauses learned reason given_within within)
+      met

@@ -1,5 +1,5 @@
 -- Each step leaves less of a search.
-use Rattle.std.proofs.Common.{◌≡◌, ℕ, zero, suc, ◌+◌, ◌-◌, ◌*◌, ◌<◌, ◌≤◌, Bool, true, false, cond, List, ◌∷◌, length, ap, ◌∙◌, arith, zero-add}
+use Rattle.std.proofs.Common.{◌≡◌, ℕ, zero, suc, ◌+◌, ◌-◌, ◌*◌, ◌<◌, ◌≤◌, Bool, true, false, cond, List, [], ◌∷◌, length, sym, ap, ◌∙◌, arith, zero-add}
 use Rattle.sc_solver.specs.declared.trail.Entry.{Entry}
 use Rattle.sc_solver.specs.Work.{tree_size, pending}
 
@@ -33,3 +33,20 @@ pending-decided vars e es h = ap (λ b. cond b (tree_size (vars - suc (length es
 
 pub follow_less : (vars n : ℕ) → n < vars → tree_size (vars - suc n) < tree_size (vars - n)
 follow_less vars n h = omega (arith, tree_size-step vars n h, tree_size-positive (vars - suc n))
+
+-- no trail leaves more than the empty one
+pub most_left : (vars : ℕ) (es : List Entry) → length es ≤ vars → tree_size (vars - length es) + pending vars es ≤ tree_size vars
+most_left vars [] h =
+    let all : tree_size (vars - length {A = Entry} []) ≡ tree_size vars = ap tree_size (omega arith) in
+    omega (arith, all)
+most_left vars (e ∷ es) h =
+    let step = pushed_less vars e es (omega arith) in
+    let rest = most_left vars es (omega arith) in
+    omega (arith, step, rest)
+
+-- a restart less pays for what is left anew
+pub restart_less : (vars left fewer before : ℕ) (es : List Entry) → fewer + 1 ≡ left → length es ≤ vars → fewer * (tree_size vars + 2) + (tree_size (vars - length es) + pending vars es + 1) < left * (tree_size vars + 2) + before
+restart_less vars left fewer before es e h =
+    let most = most_left vars es h in
+    let paid : left * (tree_size vars + 2) ≡ fewer * (tree_size vars + 2) + (tree_size vars + 2) = ap (λ n. n * (tree_size vars + 2)) (sym e) ∙ omega arith in
+    omega (arith, most, paid)

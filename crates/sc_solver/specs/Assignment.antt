@@ -2,7 +2,7 @@
 -- An assignment is a list with one truth value for each variable.
 use Rattle.std.specs.Prelude.{◌≡◌, ℕ, Bool, false, not, if◌then◌else◌, List, [], ◌∷◌, length, Option, Some, None, IsTrue, All, slice_index_or}
 use Rattle.std.specs.List.{list_any, Contains}
-use Rattle.sc_theory.specs.Models.{HasModel}
+use Rattle.sc_procedure.specs.Models.{HasModel}
 use Rattle.sc_solver.specs.declared.literal.PLit.{PLit}
 
 -- the value of a variable

@@ -5,21 +5,19 @@ use Rattle.std.specs.List.{slice_get}
 use Rattle.sc_solver.specs.declared.literal.PLit.{PLit}
 use Rattle.sc_solver.specs.declared.trail.Entry.{Entry}
 use Rattle.sc_solver.specs.declared.reason.Reason.{Reason}
-use Rattle.sc_solver.specs.declared.reason.Reason.TheVariants.{Given, Learned, Unknown}
-use Rattle.sc_solver.specs.declared.units.ClauseState.{ClauseState}
-use Rattle.sc_solver.specs.declared.units.ClauseState.TheVariants.{Conflict, UnitLiteral, Open}
+use Rattle.sc_solver.specs.declared.reason.Reason.TheVariants.{Unknown}
 use Rattle.sc_solver.specs.Assignment.{value_at}
 use Rattle.sc_solver.specs.Clauses.{IsWithin}
-use Rattle.sc_solver.specs.Learned.{LearnedView, IsSpent, clause_of}
+use Rattle.sc_solver.specs.Learned.{LearnedView}
+use Rattle.sc_solver.specs.Watches.{WatchesView, clause_in}
 use Rattle.sc_solver.specs.Marks.{HasMarks, IsEntailed, IsMarkedBut}
 use Rattle.sc_solver.specs.Preferences.{PreferencesView}
-use Rattle.sc_solver.specs.SearchView.{SearchView, Lawful}
-use Rattle.sc_solver.specs.Units.{IsFalseIn, IsUnit, IsOpen}
+use Rattle.sc_solver.specs.ContextView.{ContextView, Lawful}
 
 -- What is searched and set so far, which variables are marked, what was learned, and of each variable
 -- the clause by which it was set, its score and its last value.
 pub record LearnerView (T L : Type 0) : Type 0 where
-  pub state : SearchView T L
+  pub state : ContextView T L
   pub marks : List Bool
   pub learned : LearnedView
   pub reasons : List Reason
@@ -27,7 +25,7 @@ pub record LearnerView (T L : Type 0) : Type 0 where
 
 -- What was learned follows from the clauses and the theory. There is a mark, a reason and a score for
 -- each variable, and room for a clause of all of them.
-pub record IsLearner {T M L : Type 0} (models : T → M → Bool) (meets : M → L → Bool) (state : SearchView T L) (learned : List (List PLit)) (width marks reasons scores room : ℕ) : Type 0 where
+pub record IsLearner {T M L : Type 0} (models : T → M → Bool) (meets : M → L → Bool) (state : ContextView T L) (learned : List (List PLit)) (width marks reasons scores room : ℕ) (watches : WatchesView) : Type 0 where
   pub entailed : All (IsEntailed (Lawful models meets state)) learned
   pub within : All (IsWithin state.vars) learned
   pub wide : width ≡ state.vars
@@ -35,18 +33,11 @@ pub record IsLearner {T M L : Type 0} (models : T → M → Bool) (meets : M →
   pub reason_each : reasons ≡ state.vars
   pub score_each : scores ≡ state.vars
   pub room_for_all : room ≡ state.vars
+  pub watch_each : watches.vars ≡ state.vars
 
 -- the clause of a reason, where it is still there
 abbrev pub clause_by : {T L : Type 0} → LearnerView T L → Reason → Option (List PLit)
-clause_by s (Given place) = slice_get s.state.clauses place
-clause_by s (Learned number) = clause_of s.learned number
-clause_by s Unknown = None
-
--- of some clauses none is in conflict or a unit; or the clause of the reason is, unless it has no number
-abbrev pub IsMet : {T L : Type 0} → LearnerView T L → List (List PLit) → ClauseState → Reason → Type 0
-IsMet s clauses Conflict reason = MatchOption (clause_by s reason) (IsSpent s.learned) (All (IsFalseIn s.state.entries))
-IsMet s clauses (UnitLiteral l) reason = MatchOption (clause_by s reason) (IsSpent s.learned) (λ clause. IsUnit s.state.entries clause l)
-IsMet s clauses Open reason = All (IsOpen s.state.entries) clauses
+clause_by s reason = clause_in s.state.clauses (Some s.learned) reason
 
 -- a literal follows by the clause of its reason from other literals that are marked
 abbrev pub IsExplained : {T L : Type 0} → LearnerView T L → List Bool → PLit → Type 0

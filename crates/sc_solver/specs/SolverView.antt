@@ -3,13 +3,15 @@ use Rattle.std.specs.Prelude.{◌≡◌, ℕ, Bool, List, Option}
 use Rattle.sc_solver.specs.declared.literal.PLit.{PLit}
 use Rattle.sc_solver.specs.Assignment.{IsLawful}
 
--- The assignment is there where the last call that changed the solver was a search that found one.
+-- The assignment is there where the last call that changed the solver was a search that found one. Then
+-- the values are those of the assignment; else they are of the variables that were assumed, or set by clauses.
 pub record SolverView (T L : Type 0) : Type 0 where
   pub vars : ℕ
   pub clauses : List (List PLit)
   pub atoms : List (Option (L × L))
   pub theory : T
   pub assignment : Option (List Bool)
+  pub values : List (Option Bool)
 
 -- an assignment that meets the clauses and the theory
 abbrev pub IsLawfulFor : {T M L : Type 0} → (T → M → Bool) → (M → L → Bool) → SolverView T L → List Bool → Type 0

@@ -1,11 +1,11 @@
 ghost use Rattle.std.specs.Prelude.{◌≡◌, ◌<◌, ◌↔◌, ◌++◌, length, IsTrue, IfSome, if◌then◌else◌};
 ghost use Rattle.std.specs.Bool.{OnFalse};
 ghost use Rattle.std.specs.Option.{option_to_list};
-ghost use Rattle.sc_theory.specs.Models.{HasModel, IsCore};
+ghost use Rattle.sc_procedure.specs.Models.{HasModel, IsCore};
 ghost use Rattle.sc_solver.specs.Trail.{literal_of};
 
 use crate::literal::PLit;
-use sc_theory::{LitBuf, Theory};
+use sc_procedure::{LitBuf, Theory};
 
 /// The theory's literal for a literal, where its variable has an atom.
 pub fn theory_literal<L: Copy>(atoms: &[Option<(L, L)>], literal: PLit) -> Option<L>

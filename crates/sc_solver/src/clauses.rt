@@ -1,3 +1,4 @@
+ghost use Rattle.std.specs.Option.{option_map};
 ghost use Rattle.sc_solver.specs.Clauses.{HasRoom};
 ghost use Rattle.std.specs.Prelude.{◌≡◌, ◌↔◌, ◌<◌, ◌≤◌, ◌+◌, IsTrue, [], ◌∷◌, ◌++◌, length, IfOk, OnOk, OnErr, Some, slice_get, map};
 
@@ -75,6 +76,17 @@ impl Clauses {
     {
         let span = self.spans[index];
         &self.literals.as_slice()[span.start..span.end]
+    }
+
+    /// The literals of the clause at a place, where there is one.
+    pub fn get(&self, index: usize) -> Option<&[PLit]>
+        ensures { option_map (λ clause. clause.now) result ≡ slice_get self.now.list index }
+    {
+        if index < self.spans.len() {
+            Some(self.clause(index))
+        } else {
+            None
+        }
     }
 
     /// No clauses, with room for so many with so many literals in all.

@@ -1,4 +1,4 @@
-ghost use Rattle.std.specs.Prelude.{◌≡◌, ◌<◌, ◌≤◌, ◌∷◌, ◌++◌, ◌⊎◌, [], None, length, All, vec_len, IfOk, OnOk, OnErr, replicate, slice_set, false};
+ghost use Rattle.std.specs.Prelude.{◌≡◌, ◌≢◌, ℕ, ◌<◌, ◌≤◌, ◌∷◌, ◌++◌, ◌⊎◌, [], None, length, All, vec_len, IfOk, OnOk, OnErr, replicate, slice_set, false};
 ghost use Rattle.std.specs.Bool.{OnTrue, OnFalse};
 ghost use Rattle.sc_solver.specs.Assignment.{negated};
 ghost use Rattle.sc_solver.specs.Clauses.{IsWithin};
@@ -6,25 +6,29 @@ ghost use Rattle.sc_solver.specs.Learned.{learned_list};
 ghost use Rattle.sc_solver.specs.Marks.{ForcesMarked, IsRefutedMarked};
 ghost use Rattle.sc_solver.specs.Preferences.{noted};
 ghost use Rattle.sc_solver.specs.Scanned.{IsNext};
-ghost use Rattle.sc_solver.specs.SearchView.{Lawful, IsTaken, SameProblem};
+ghost use Rattle.sc_solver.specs.ContextView.{Lawful, IsTaken, SameProblem};
 ghost use Rattle.sc_solver.specs.Steps.{IsDecided, IsExhausted, IsFollowed, IsReached, IsSolved, work};
 ghost use Rattle.sc_solver.specs.Trail.{value_in, Forces};
 ghost use Rattle.sc_solver.specs.Work.{rest};
 
+mod adding;
 mod backtracking;
 mod explaining;
+mod propagating;
 mod scanning;
 
 use crate::clauses::Clauses;
+use crate::context::Context;
 use crate::learned::Learned;
 use crate::literal::PLit;
 use crate::preferences::Preferences;
 use crate::progress::Progress;
 use crate::reason::Reason;
-use crate::search::Search;
+use crate::restarts::Restarts;
 use crate::trail::Entry;
 use crate::units::ClauseState;
-use sc_theory::{LitBuf, Theory};
+use crate::watches::{MOST, Watches};
+use sc_procedure::{LitBuf, Theory};
 use std::alloc::{AllocError, Global};
 use std::marker::Model;
 
@@ -40,7 +44,7 @@ const USUAL_WIDTH: usize = 32;
 /// A search that learns from its conflicts.
 #[derive(Drop)]
 pub struct Learner<T: Theory> {
-    state: Search<T>,
+    state: Context<T>,
     learned: Learned,
     /// Of each variable, the clause by which it was set.
     reasons: Vec<Reason>,
@@ -49,10 +53,9 @@ pub struct Learner<T: Theory> {
     preferences: Preferences,
     /// The clause that is learned.
     draft: LitBuf<PLit>,
-    /// Where the next scan of the clauses begins.
+    watches: Watches,
+    /// The first clause that was not looked at yet.
     next: usize,
-    /// Whether what was learned is scanned first.
-    learned_first: bool,
 }
 
 impl<T: Theory> Model for Learner<T> {
@@ -71,7 +74,7 @@ impl<T: Theory> Model for Learner<T> {
     } };
 
     ghost invariant = { λ s. IsLearner T.models T.meets s.state (learned_list s.learned) s.learned.width
-        (vec_len s.marks) (vec_len s.reasons) (length s.preferences.scores) s.draft.capacity };
+        (vec_len s.marks) (vec_len s.reasons) (length s.preferences.scores) s.draft.capacity s.watches };
 }
 
 impl<T: Theory + Drop> Learner<T> {
@@ -89,6 +92,8 @@ impl<T: Theory + Drop> Learner<T> {
         requires one_each { vec_len atoms ≡ vars }
         requires taken { All (IsTaken (T.takes theory)) atoms.items }
         requires within { All (IsWithin vars) clauses.list }
+        requires few_vars { vars < MOST }
+        requires few_clauses { length clauses.list < MOST }
         ensures state { IfOk result (λ s. s.state ≡ record {
           vars = vars;
           clauses = clauses.list;
@@ -107,7 +112,8 @@ impl<T: Theory + Drop> Learner<T> {
         let marks = vec![in alloc; false; vars as usize]?;
         let preferences = Preferences::new(alloc, vars)?;
         let draft = LitBuf::new(alloc, vars as usize)?;
-        let state = Search::new(alloc, vars, clauses, atoms, theory)?;
+        let watches = Watches::new(alloc, vars, 2 * most, &clauses)?;
+        let state = Context::new(alloc, vars, clauses, atoms, theory)?;
         Ok(Learner {
             state,
             learned,
@@ -115,8 +121,8 @@ impl<T: Theory + Drop> Learner<T> {
             marks,
             preferences,
             draft,
+            watches,
             next: 0,
-            learned_first: false,
         })
     }
 }
@@ -135,27 +141,6 @@ impl<T: Theory> Learner<T> {
         ensures { result ≡ value_in self.now.state.entries var }
     {
         self.state.value(var)
-    }
-
-    /// Puts a clause behind the others. Where memory is wanted the search is as before.
-    pub fn push_clause(&mut self, clause: &[PLit]) -> Result<(), AllocError>
-        requires { IsWithin self.old.state.vars clause.now }
-        ensures ok { OnOk result (self.new.state
-            ≡ record self.old.state { clauses = self.old.state.clauses ++ clause.now ∷ [] }) }
-        ensures err { OnErr result (self.new.state ≡ self.old.state) }
-        ensures kept { self.new ≡ record self.old { state = self.new.state } }
-    {
-        self.state.push_clause(clause)
-    }
-
-    /// Takes everything back that is set. What was learned stays.
-    pub fn restart(&mut self)
-        ensures problem { SameProblem T.capacity T.takes T.models self.old.state self.new.state }
-        ensures unset { self.new.state.entries ≡ [] }
-        ensures nothing { T.literals self.new.state.theory ≡ [] }
-        ensures kept { self.new ≡ record self.old { state = self.new.state } }
-    {
-        self.state.restart();
     }
 
     /// Makes a literal true, unless the theory refuses it. Then the literals that are why get marks.
@@ -183,7 +168,7 @@ impl<T: Theory> Learner<T> {
 
     /// Makes a literal true that follows from what is set, and notes why. Where the theory refuses
     /// it, what is marked is refuted.
-    fn follow(&mut self, literal: PLit, reason: Reason) -> Progress
+    pub fn follow(&mut self, literal: PLit, reason: Reason) -> Progress
         requires next { IsNext (Lawful T.models T.meets self.old.state) self.old.state.vars
             self.old.state.entries literal }
         ensures problem { SameProblem T.capacity T.takes T.models self.old.state self.new.state }
@@ -217,8 +202,6 @@ impl<T: Theory> Learner<T> {
         requires unset { value_in self.old.state.entries literal.var ≡ None }
         ensures problem { SameProblem T.capacity T.takes T.models self.old.state self.new.state }
         ensures reached { IsReached T.literals T.models T.meets result self.new.marks self.new.state }
-        ensures set { IsDecided self.old.state.entries self.new.state.entries literal result
-            ⊎ IsFollowed self.old.state.entries self.new.state.entries (negated literal) result }
         ensures less { work result self.new.state < work Progress.Open self.old.state }
     {
         let entry = Entry {
@@ -228,10 +211,7 @@ impl<T: Theory> Learner<T> {
         if self.set(entry) {
             return Progress::Open;
         }
-        let opposite = literal.opposite();
-        self.thin();
-        let reason = self.learn(opposite);
-        self.follow(opposite, reason)
+        self.conclude(literal.opposite())
     }
 
     /// Goes on by a conflict, a unit or a decision.
@@ -249,8 +229,26 @@ impl<T: Theory> Learner<T> {
             ClauseState::UnitLiteral(literal) => self.follow(literal, step.reason),
             ClauseState::Open => match self.preferences.choose(self.state.trail()) {
                 Some(literal) => self.decide(literal),
-                None => Progress::Found,
+                None => self.finish(),
             },
+        }
+    }
+
+    /// Looks at all clauses once each variable is set.
+    fn finish(&mut self) -> Progress
+        requires { (var : ℕ) → var < self.old.state.vars → value_in self.old.state.entries var ≢ None }
+        ensures problem { SameProblem T.capacity T.takes T.models self.old.state self.new.state }
+        ensures reached { IsReached T.literals T.models T.meets result self.new.marks self.new.state }
+        ensures less { work result self.new.state < work Progress.Open self.old.state }
+    {
+        let found = self.state.find_unit(0);
+        match found.state {
+            ClauseState::Conflict => {
+                self.explain(Reason::Given(found.clause), None);
+                Progress::Refuted
+            }
+            ClauseState::UnitLiteral(literal) => self.follow(literal, Reason::Given(found.clause)),
+            ClauseState::Open => Progress::Found,
         }
     }
 
@@ -266,10 +264,7 @@ impl<T: Theory> Learner<T> {
         let Some(literal) = self.pop_to_point() else {
             return Progress::Exhausted;
         };
-        self.thin();
-        self.pop_free_levels();
-        let reason = self.learn(literal);
-        self.follow(literal, reason)
+        self.conclude(literal)
     }
 
     /// Goes on until there is a lawful assignment or none is left, and says whether there is one.
@@ -278,11 +273,19 @@ impl<T: Theory> Learner<T> {
         ensures found { OnTrue result (IsSolved T.literals T.models T.meets self.new.state) }
         ensures none_left { OnFalse result (IsExhausted T.literals T.models T.meets self.new.state) }
     {
+        let mut restarts = Restarts::new();
         let mut progress = Progress::Open;
         loop {
             match progress {
+                Progress::Open if restarts.is_due() => {
+                    restarts.take();
+                    self.pop_decisions();
+                }
                 Progress::Open => progress = self.advance(),
-                Progress::Refuted => progress = self.backtrack(),
+                Progress::Refuted => {
+                    restarts.count();
+                    progress = self.backtrack();
+                }
                 Progress::Found => return true,
                 Progress::Exhausted => return false,
             }

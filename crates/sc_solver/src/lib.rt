@@ -11,11 +11,15 @@
 //! - `learner`: the steps of a search, with its modules `scanning` (what is met next), `explaining`
 //!   (what is learned from a conflict) and `backtracking` (what is taken back).
 //! - `reason`: the clause by which a literal was set.
-//! - `search`: the clauses, the theory and the trail in step.
+//! - `context`: the clauses, the theory and the trail in step.
 //! - `progress`: where a search stands.
+//! - `restarts`: when it begins anew.
 //! - `learned`: the clauses that were learned.
 //! - `preferences`: which variable is decided next, and how.
+//! - `heap`: variables by their scores.
 //! - `marking`: which literals of the trail a conflict comes from.
+//! - `watches`: which clauses are looked at where a literal becomes false.
+//! - `looking`: a look at such a clause.
 //! - `units`: the scan of all clauses for one that is in conflict or a unit.
 //! - `asserting`: how a literal of the trail is asserted at the theory.
 //! - `trail`: the literals that are true so far, and which of them were decided.
@@ -26,20 +30,22 @@
 
 mod asserting;
 mod clauses;
+mod context;
+mod heap;
 mod learned;
 mod learner;
 mod literal;
+mod looking;
 mod marking;
 mod preferences;
 mod progress;
 mod reason;
+mod restarts;
 mod room;
-mod search;
 mod solver;
-#[cfg(test)]
-mod tests;
 mod trail;
 mod units;
+mod watches;
 
 pub use literal::PLit;
-pub use solver::{Answer, Solver};
+pub use solver::{Answer, Prop, Solver};

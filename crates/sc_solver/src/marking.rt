@@ -8,7 +8,7 @@ ghost use Rattle.sc_solver.specs.Units.{IsFalseIn};
 use crate::literal::PLit;
 use crate::room::push_within;
 use crate::trail::{Entry, Trail};
-use sc_theory::LitBuf;
+use sc_procedure::LitBuf;
 
 /// Marks the variables of the clause, but for those of the literal `but`, up to the first literal
 /// that is not false. Says whether there was no such literal.

@@ -3,6 +3,7 @@ ghost use Rattle.sc_solver.specs.Clauses.{IsWithin};
 ghost use Rattle.sc_solver.specs.Preferences.{noted, raised, raised_all, scaled_down, aged};
 ghost use Rattle.sc_solver.specs.Trail.{value_in};
 
+use crate::heap::Heap;
 use crate::literal::PLit;
 use crate::trail::Trail;
 use std::alloc::{AllocError, Global};
@@ -26,6 +27,8 @@ pub struct Preferences {
     scores: Vec<u64>,
     values: Vec<bool>,
     step: u64,
+    /// Those that may be unset, by their scores.
+    heap: Heap,
 }
 
 impl Model for Preferences {
@@ -36,7 +39,8 @@ impl Model for Preferences {
 
     ghost view = { λ p. record { scores = p.scores.items; values = p.values.items; step = p.step } };
 
-    ghost invariant = { λ p. (vec_len p.values ≡ vec_len p.scores) × (vec_len p.scores < 2 ^ 32) };
+    ghost invariant = { λ p. (vec_len p.values ≡ vec_len p.scores) × (p.heap ≡ vec_len p.scores)
+        × (vec_len p.scores < 2 ^ 32) };
 }
 
 impl Preferences {
@@ -54,6 +58,7 @@ impl Preferences {
             scores,
             values,
             step: FIRST_STEP,
+            heap: Heap::new(alloc, vars)?,
         })
     }
 
@@ -72,6 +77,7 @@ impl Preferences {
     {
         let score = self.scores[var as usize];
         self.scores[var as usize] = score.saturating_add(self.step);
+        self.heap.raise(var, self.scores.as_slice());
     }
 
     /// Raises the scores of the variables of a clause.
@@ -95,41 +101,59 @@ impl Preferences {
         }
     }
 
-    /// The literal of a variable that is not set, where there is one: of those with the largest
-    /// score, with the value that it had last.
-    pub fn choose(&self, trail: &Trail) -> Option<PLit>
-        requires { trail.now.vars ≡ length self.now.scores }
+    /// Lets a variable be decided again, which was set.
+    pub fn offer(&mut self, var: u32)
+        requires { var < length self.old.scores }
+        ensures { self.new ≡ self.old }
+    {
+        self.heap.insert(var, self.scores.as_slice());
+    }
+
+    /// The literal of a variable that is not set, where there is one: of the first in the heap, with
+    /// the value that it had last.
+    pub fn choose(&mut self, trail: &Trail) -> Option<PLit>
+        requires { trail.now.vars ≡ length self.old.scores }
+        ensures same { self.new ≡ self.old }
         ensures unset { MatchOption result
             ((var : ℕ) → var < trail.now.vars → value_in trail.now.entries var ≢ None)
             (λ l. (l.var < trail.now.vars) × (value_in trail.now.entries l.var ≡ None)) }
-        ensures largest { IfSome result (λ l. (var : ℕ) → var < trail.now.vars
-            → value_in trail.now.entries var ≡ None
-            → slice_index self.now.scores var ≤ slice_index self.now.scores l.var) }
-        ensures last_value { IfSome result (λ l. l.plus ≡ slice_index_or self.now.values l.var false) }
+        ensures last_value { IfSome result (λ l. l.plus ≡ slice_index_or self.old.values l.var false) }
     {
-        let mut best: Option<u32> = None;
-        for index in 0..self.scores.len() {
-            let var = index as u32;
-            if trail.value(var).is_none() && self.is_preferred(var, best) {
-                best = Some(var);
+        for _ in 0..self.scores.len() {
+            let Some(var) = self.heap.pop(self.scores.as_slice()) else {
+                break;
+            };
+            if trail.value(var).is_none() {
+                return Some(self.preferred(var));
             }
         }
-        let var = best?;
-        let plus = self.values[var as usize];
-        Some(PLit { var, plus })
+        let var = self.first_unset(trail)?;
+        Some(self.preferred(var))
     }
 
-    /// Whether a variable has a larger score than another, or there is no other.
-    fn is_preferred(&self, var: u32, best: Option<u32>) -> bool
-        requires within { var < length self.now.scores }
-        requires best { IfSome best (λ other. other < length self.now.scores) }
-        ensures { IsTrue result
-            ↔ IfSome best (λ other. slice_index self.now.scores other < slice_index self.now.scores var) }
+    /// The literal of a variable with the value that it had last.
+    fn preferred(&self, var: u32) -> PLit
+        requires { var < length self.now.scores }
+        ensures { result ≡ record { var = var; plus = slice_index_or self.now.values var false } }
     {
-        match best {
-            None => true,
-            Some(other) => self.scores[other as usize] < self.scores[var as usize],
+        let plus = self.values[var as usize];
+        PLit { var, plus }
+    }
+
+    /// The first variable that is not set, where there is one.
+    fn first_unset(&self, trail: &Trail) -> Option<u32>
+        requires { trail.now.vars ≡ length self.now.scores }
+        ensures { MatchOption result
+            ((var : ℕ) → var < trail.now.vars → value_in trail.now.entries var ≢ None)
+            (λ var. (var < trail.now.vars) × (value_in trail.now.entries var ≡ None)) }
+    {
+        for index in 0..self.scores.len() {
+            let var = index as u32;
+            if trail.value(var).is_none() {
+                return Some(var);
+            }
         }
+        None
     }
 }
 

@@ -1,4 +1,4 @@
-ghost use Rattle.std.specs.Prelude.{◌≡◌, ◌↔◌, ◌<◌, IsTrue, [], ◌∷◌, None, length, reverse, IfOk, MatchOption};
+ghost use Rattle.std.specs.Prelude.{◌≡◌, ◌↔◌, ◌<◌, IsTrue, [], ◌∷◌, None, Some, true, length, reverse, IfOk, MatchOption};
 ghost use Rattle.sc_solver.specs.Marks.{IsFreeLevel};
 ghost use Rattle.sc_solver.specs.Trail.{value_in, literal_in};
 ghost use Rattle.sc_solver.specs.Units.{IsFalseIn};
@@ -21,6 +21,10 @@ pub struct Entry {
 pub struct Trail {
     values: Vec<Option<bool>>,
     entries: Vec<Entry>,
+    /// Of each variable, after how many others it was set. No proof rests on it.
+    places: Vec<usize>,
+    /// How many literals were decided, on which none rests either.
+    decisions: usize,
 }
 
 impl Model for Trail {
@@ -33,7 +37,8 @@ impl Model for Trail {
 
     ghost view = { λ t. record { vars = vec_len t.values; entries = reverse t.entries.items } };
 
-    ghost invariant = { λ t. IsKept t.values.items (vec_capacity t.entries) (reverse t.entries.items) };
+    ghost invariant = { λ t. IsKept t.values.items (vec_capacity t.entries) (vec_len t.places)
+        (reverse t.entries.items) };
 }
 
 impl Trail {
@@ -43,7 +48,12 @@ impl Trail {
     {
         let values = vec![in alloc; None; vars as usize]?;
         let entries = Vec::with_capacity(alloc, vars as usize)?;
-        Ok(Trail { values, entries })
+        Ok(Trail {
+            values,
+            entries,
+            places: vec![in alloc; 0; vars as usize]?,
+            decisions: 0,
+        })
     }
 
     /// The value of a variable, where it is set.
@@ -69,6 +79,41 @@ impl Trail {
         ensures { IsTrue result ↔ IsFalseIn self.now.entries literal }
     {
         matches!(self.literal_value(literal), Some(false))
+    }
+
+    /// Whether a literal is true.
+    pub fn is_true(&self, literal: PLit) -> bool
+        requires { literal.var < self.now.vars }
+        ensures { IsTrue result ↔ (literal_in self.now.entries literal ≡ Some true) }
+    {
+        matches!(self.literal_value(literal), Some(true))
+    }
+
+    /// How many literals are set.
+    pub fn len(&self) -> usize
+        ensures { result ≡ length self.now.entries }
+    {
+        self.entries.len()
+    }
+
+    /// After how many others a variable was set, where it is.
+    pub fn place(&self, var: u32) -> usize
+        requires { var < self.now.vars }
+    {
+        self.places[var as usize]
+    }
+
+    /// How many literals that are set were decided.
+    pub fn decisions(&self) -> usize {
+        self.decisions
+    }
+
+    /// The literal at a place, counted from the oldest on.
+    pub fn entry(&self, place: usize) -> Entry
+        requires { place < length self.now.entries }
+        ensures { result.literal.var < self.now.vars }
+    {
+        self.entries[place]
     }
 
     /// The literals that are true so far, the oldest first.
@@ -103,8 +148,11 @@ impl Trail {
         requires unset { value_in self.old.entries entry.literal.var ≡ None }
         ensures vars { self.new.vars ≡ self.old.vars }
         ensures entries { self.new.entries ≡ entry ∷ self.old.entries }
+        ensures room { length self.old.entries < self.old.vars }
     {
         self.values[entry.literal.var as usize] = Some(entry.literal.plus);
+        self.places[entry.literal.var as usize] = self.entries.len();
+        self.decisions = self.decisions.saturating_add(usize::from(entry.decided));
         match self.entries.push(entry) {
             Ok(()) => (),
             Err(_) => unreachable!(),
@@ -119,6 +167,15 @@ impl Trail {
     {
         let entry = self.entries.pop()?;
         self.values[entry.literal.var as usize] = None;
+        self.decisions = self.decisions.saturating_sub(usize::from(entry.decided));
         Some(entry)
+    }
+
+    /// Takes everything back.
+    pub fn clear(&mut self)
+        ensures vars { self.new.vars ≡ self.old.vars }
+        ensures entries { self.new.entries ≡ [] }
+    {
+        while self.pop().is_some() {}
     }
 }

@@ -64,7 +64,7 @@ pub fn find_unit(trail: &Trail, clauses: &Clauses, from: usize) -> Found
 }
 
 /// The first conflict or unit among the clauses from `start` up to `end`.
-fn scan(trail: &Trail, clauses: &Clauses, start: usize, end: usize) -> Found
+pub fn scan(trail: &Trail, clauses: &Clauses, start: usize, end: usize) -> Found
     requires within { All (IsWithin trail.now.vars) clauses.now.list }
     requires inside { end ≤ length clauses.now.list }
     ensures { IsFoundWithin trail.now.entries clauses.now.list start end result.state result.clause }

@@ -1,15 +1,1 @@
-pub mod LitBuf
-pub mod Models
-pub mod Visits
-pub mod Edges
-pub mod EdgeList
-pub mod Search
-pub mod Partition
-pub mod Equality
-pub mod Entries
-pub mod Clash
-pub mod EntryEnds
-pub mod EmptyClasses
-pub mod Pair
-pub mod PairSides
-pub mod PairLaw
+pub mod Public

@@ -1,4 +1,1 @@
-pub mod Joined
-pub mod Statuses
-pub mod Trees
 pub mod WordsGiven

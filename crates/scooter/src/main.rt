@@ -1,35 +1,27 @@
 //! `scooter check SPEC SCRIPT`: whether a migration script gives anybody new access.
 //!
+//! The program is `run` of sc_run over the real objects: the words from the environment, the files
+//! of the current folder, the standard output, and the exit status.
+//!
 //! | module | holds |
 //! |---|---|
-//! | `run` | `run`, the program as one call, with its statuses |
-//! | `laws` | what holds of all answers |
 //! | `arguments` | the words that the program's arguments are |
-//! | `words` | the words of the command line |
-//! | `files` | the files that the words name, as trees |
-//! | `reply` | `Reply`, what is printed and its status |
-//! | `report`, `witness` | the texts that are printed |
-//! | `pieces` | texts put together from pieces |
-//! | `stop` | `Stop`, why there is no answer |
 #![tactic(auto)]
 
+ghost use Rattle.std.specs.Prelude.{◌≡◌};
+ghost use Rattle.std.specs.Process.{exit_status};
+ghost use Rattle.sc_run.specs.Ends.{Ends};
+ghost use Rattle.sc_run.specs.Status.{code_of};
+ghost use Rattle.sc_run.specs.declared.status.Status.{Status};
+
 mod arguments;
-mod files;
-mod laws;
-mod pieces;
-mod reply;
-mod report;
-mod run;
-mod stop;
 #[cfg(test)]
 mod tests;
-mod witness;
-mod words;
 
 use crate::arguments::{one_empty_word, words_of};
-use crate::run::{Status, run};
 use sc_ast::Txt;
-use sc_flow::{CurrentFolder, DirShelf, StdSink};
+use sc_flow::{CurrentFolder, DirShelf, Shelf, Sink, StdSink};
+use sc_run::{Status, run};
 use std::alloc::{AllocError, Global};
 use std::io::ErrorKind;
 use std::process::ExitCode;
@@ -50,13 +42,25 @@ fn words_given(rt: &(impl Env + AllocGlobal)) -> Result<Vec<Txt>, AllocError> {
     }
 }
 
+/// Runs the words, and gives the exit status of how the run ended.
+fn run_to_exit<F: Shelf, W: Sink>(
+    alloc: Global,
+    words: &[Txt],
+    shelf: &mut F,
+    out: &mut W,
+) -> ExitCode
+    ensures { (status : Status) × (exit_status result ≡ code_of status)
+        × Ends (F.told shelf.old) words.now (W.told out.old) (W.told out.new) status }
+{
+    ExitCode::from(run(alloc, words, shelf, out))
+}
+
 fn main(rt: HostRuntime) -> ExitCode {
     let Ok(words) = words_given(&rt) else {
-        return ExitCode::from(13);
+        return ExitCode::from(Status::OutOfMemory);
     };
     let mut out = StdSink::new(io::writer(&rt));
     let alloc = rt.alloc();
     let mut shelf = DirShelf::new(CurrentFolder(rt));
-    let Status { code } = run(alloc, words.as_slice(), &mut shelf, &mut out);
-    ExitCode::from(code)
+    run_to_exit(alloc, words.as_slice(), &mut shelf, &mut out)
 }

@@ -2,10 +2,12 @@
 //!
 //! - `random`: numbers and clauses that look random.
 //! - `mixed`: solvers over both theories, and what they answer.
+//! - `rows`: small cases, each named by what it shows.
 //! - `worlds`: the values that variables, terms and numbers can have, and a search of all.
 
 mod mixed;
 mod random;
+mod rows;
 mod worlds;
 
 use self::mixed::{Difference, Found, clauses_of, last_answer, mixed_solver};

@@ -1,5 +1,6 @@
+//! How a theory is asked.
 ghost use Rattle.std.specs.Prelude.{◌≡◌, ◌+◌, ◌<◌, ◌≤◌, [], length, IsTrue, All};
-ghost use Rattle.sc_theory.specs.Models.{HasModel};
+ghost use Rattle.sc_procedure.specs.Models.{HasModel};
 
 use sc_theory::{LitBuf, Theory};
 

@@ -1,5 +1,6 @@
+//! Equalities and differences of terms.
 ghost use Rattle.std.specs.Prelude.{◌≡◌, length, IsTrue, All, IfOk};
-ghost use Rattle.sc_theory.specs.Equality.{takes_literal};
+ghost use Rattle.sc_equality.specs.Equality.{takes_literal};
 
 use crate::random::next;
 use sc_theory::EqualityLit;

@@ -1,3 +1,4 @@
+//! Bounds on differences of numbers.
 ghost use Rattle.std.specs.Prelude.{◌≡◌, length, IsTrue, All, IfOk};
 ghost use Rattle.sc_order.specs.Difference.{is_literal};
 

@@ -1,4 +1,5 @@
-use crate::tests::composing::{Copied, copy_both, copy_file, copy_surely};
+//! The objects in memory.
+
 use crate::{
     Failed, Found, MemFile, MemShelf, MemSink, Shelf, ShelfErr, Sink, SureShelf, SureSink, put_all,
 };
@@ -123,38 +124,5 @@ fn a_sure_sink_tells_what_fits(rt: HostRuntime) -> Result<(), Fail> {
     assert!(rt; out.bytes().ok_or("fits")? == b"abc".as_slice());
     assert!(rt; put_all(&mut out, b"d") == Ok(()));
     assert!(rt; out.bytes().is_none());
-    Ok(())
-}
-
-#[test]
-fn a_file_is_copied_or_a_fault_is_named(rt: HostRuntime) -> Result<(), Fail> {
-    let alloc = rt.alloc();
-    let no_number = 9;
-    for (read, write, want, output) in [
-        (no_number, no_number, Copied::Whole, b"alpha".as_slice()),
-        (0, no_number, Copied::ReadFault, b"".as_slice()),
-        (no_number, 0, Copied::WriteFault, b"".as_slice()),
-        (no_number, 1, Copied::WriteFault, b"alp".as_slice()),
-    ] {
-        let mut shelf = MemShelf::new(files(alloc)?, vec![in alloc; read]?);
-        let mut out = MemSink::new(alloc, 20, 3, vec![in alloc; write]?)?;
-        assert_eq!(rt; copy_file(alloc, b"a.txt", 5, &mut shelf, &mut out), want);
-        assert!(rt; out.bytes() == output);
-    }
-    let mut shelf = SureShelf::new(files(alloc)?);
-    let mut out = SureSink::new(alloc, 5)?;
-    assert_eq!(rt;
-        copy_surely(alloc, b"a.txt", 5, &mut shelf, &mut out),
-        Copied::Whole
-    );
-    assert!(rt; out.bytes().ok_or("fits")? == b"alpha".as_slice());
-    let mut shelf = MemShelf::new(files(alloc)?, Vec::new(alloc));
-    let mut out = MemSink::new(alloc, 20, 3, Vec::new(alloc))?;
-    let names = (b"a.txt".as_slice(), b"a.txt".as_slice());
-    assert_eq!(rt;
-        copy_both(alloc, names, 5, &mut shelf, &mut out),
-        Copied::Whole
-    );
-    assert!(rt; out.bytes() == b"alphaalpha".as_slice());
     Ok(())
 }

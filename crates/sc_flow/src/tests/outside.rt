@@ -40,13 +40,14 @@ fn files_of_the_current_folder(rt: HostRuntime) -> Result<(), Fail> {
     Ok(())
 }
 
-// A folder whose files give three bytes and then fail.
+/// A folder in memory, whose files give some bytes and then fail.
 #[derive(Drop)]
 struct Torn;
 
 #[derive(Drop)]
 struct TornFile {
     left: u8,
+    failure: ErrorKind,
 }
 
 impl Folder for Torn {
@@ -55,17 +56,22 @@ impl Folder for Torn {
     ghost files = { λ _. None };
 
     fn open_file(&self, name: &str) -> io::Result<TornFile> {
-        if name == "locked" {
-            return Err(io::Error::from(ErrorKind::PermissionDenied));
-        }
-        Ok(TornFile { left: 3 })
+        let (left, failure) = match name {
+            "torn" => (3, ErrorKind::Other),
+            "large" => (3, ErrorKind::OutOfMemory),
+            " blanks " => (1, ErrorKind::Other),
+            "locked" => return Err(io::Error::from(ErrorKind::PermissionDenied)),
+            "crowded" => return Err(io::Error::from(ErrorKind::OutOfMemory)),
+            _ => return Err(io::Error::from(ErrorKind::NotFound)),
+        };
+        Ok(TornFile { left, failure })
     }
 }
 
 impl Read for TornFile {
     fn read(&mut self, buf: &mut [u8]) -> io::Result<usize> {
         if self.left == 0 {
-            return Err(io::Error::from(ErrorKind::Other));
+            return Err(io::Error::from(self.failure));
         }
         if buf.is_empty() {
             return Ok(0);
@@ -76,20 +82,35 @@ impl Read for TornFile {
     }
 }
 
-#[test]
-fn a_read_that_fails_in_mid_file_counts_a_fault(rt: HostRuntime) {
-    let alloc = rt.alloc();
-    let mut shelf = DirShelf::new(Torn);
-    for (name, limit, want) in [
-        (b"torn".as_slice(), 3, true),
-        (b"locked".as_slice(), 1, true),
-        (b"torn".as_slice(), 2, false),
-    ] {
-        let answer = shelf.fetch(alloc, name, limit);
-        assert!(rt; matches!(answer, Err(ShelfErr::Failed)) == want, "{limit}");
-        assert!(rt; matches!(answer, Ok(Found::TooLong)) != want, "{limit}");
+/// The word for an answer.
+fn word(answer: &Result<Found, ShelfErr>) -> &'static str {
+    match answer {
+        Ok(Found::Bytes(_)) => "bytes",
+        Ok(Found::Missing) => "missing",
+        Ok(Found::TooLong) => "too long",
+        Err(ShelfErr::Failed) => "failed",
+        Err(ShelfErr::OutOfMemory) => "out of memory",
     }
-    assert_eq!(rt; shelf.faults(), 2);
+}
+
+#[test]
+fn faults_are_counted_and_want_of_memory_is_none(rt: HostRuntime) {
+    let mut shelf = DirShelf::new(Torn);
+    for (name, limit, want, faults) in [
+        (b"torn".as_slice(), 3, "failed", 1),
+        (b"locked".as_slice(), 1, "failed", 2),
+        (b"torn".as_slice(), 2, "too long", 2),
+        (b"large".as_slice(), 3, "out of memory", 2),
+        (b"crowded".as_slice(), 3, "out of memory", 2),
+        // A name is opened as it is, with blanks at its ends.
+        (b" blanks ".as_slice(), 0, "too long", 2),
+        (b"blanks".as_slice(), 0, "missing", 2),
+        (b"torn ".as_slice(), 2, "missing", 2),
+    ] {
+        let answer = shelf.fetch(rt.alloc(), name, limit);
+        assert_eq!(rt; word(&answer), want);
+        assert_eq!(rt; shelf.faults(), faults);
+    }
 }
 
 #[test]
@@ -99,7 +120,7 @@ fn standard_output_takes_bytes(rt: HostRuntime) {
     assert_eq!(rt; out.faults(), 0);
 }
 
-// A writer whose calls in turn take nothing, are interrupted, take a byte and fail.
+/// A writer whose calls in turn take nothing, are interrupted, take a byte and fail.
 #[derive(Drop)]
 struct Balking {
     calls: u8,

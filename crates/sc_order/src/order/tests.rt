@@ -1,9 +1,10 @@
+//! Literals whose answers are known from outside.
 ghost use Rattle.std.specs.Prelude.{◌≡◌, ◌<◌, ◌≤◌, length, IsTrue, IfOk, IfSome};
-ghost use Rattle.sc_theory.specs.Models.{HasModel};
+ghost use Rattle.sc_procedure.specs.Models.{HasModel};
 ghost use Rattle.sc_order.specs.Difference.{is_assignment, meets, is_literal};
 
 use crate::{Diff, Order};
-use sc_theory::{LitBuf, Theory};
+use sc_procedure::{LitBuf, Theory};
 use std::alloc::{AllocError, Global};
 use std::process::Abort;
 use std::test::Fail;
@@ -16,7 +17,7 @@ const LEAST: i128 = -9_223_372_036_854_775_808;
 
 const GREATEST: i128 = 9_223_372_036_854_775_807;
 
-// A theory of four variables with room for six literals, and none asserted.
+/// A theory of four variables with room for six literals, and none asserted.
 fn start(alloc: Global) -> Result<Order, AllocError>
     ensures has_model { IfOk result (λ o. HasModel (is_assignment o.variables) meets o.literals) }
     ensures takes { IfOk result (λ o. is_literal o.variables ≡ is_literal VARIABLES) }
@@ -26,7 +27,7 @@ fn start(alloc: Global) -> Result<Order, AllocError>
     Order::new(alloc, VARIABLES, CAPACITY)
 }
 
-// `x - y <= c`, if the theory takes it.
+/// `x - y <= c`, if the theory takes it.
 fn literal(x: u32, y: u32, c: i128) -> Option<Diff>
     ensures { IfSome result (λ l. IsTrue (is_literal VARIABLES l)) }
 {
@@ -38,7 +39,7 @@ fn literal(x: u32, y: u32, c: i128) -> Option<Diff>
     }
 }
 
-// Asserts a literal. Where there is no model any more, the literal is taken back after the conflict.
+/// Asserts a literal. Where there is no model any more, the literal is taken back after the conflict.
 fn ask<T: Theory>(theory: &mut T, core: &mut LitBuf<u32>, l: T::Lit) -> bool
     requires has_model { HasModel (T.models theory.old) T.meets (T.literals theory.old) }
     requires room { length (T.literals theory.old) < T.capacity theory.old }
@@ -58,7 +59,7 @@ fn ask<T: Theory>(theory: &mut T, core: &mut LitBuf<u32>, l: T::Lit) -> bool
     false
 }
 
-// Asserts `x - y <= c`. Says whether the literals still have a model; if not, this one is taken back.
+/// Asserts `x - y <= c`. Says whether the literals still have a model; if not, this one is taken back.
 fn ask_row(order: &mut Order, core: &mut LitBuf<u32>, x: u32, y: u32, c: i128) -> bool
     requires has_model { HasModel (is_assignment order.old.variables) meets order.old.literals }
     requires takes { is_literal order.old.variables ≡ is_literal VARIABLES }
@@ -78,28 +79,18 @@ fn ask_row(order: &mut Order, core: &mut LitBuf<u32>, x: u32, y: u32, c: i128) -
     }
 }
 
-// Takes the last `n` literals back, or all.
-fn take_back(order: &mut Order, n: usize)
-    requires has_model { HasModel (is_assignment order.old.variables) meets order.old.literals }
-    ensures has_model { HasModel (is_assignment order.new.variables) meets order.new.literals }
-    ensures takes { is_literal order.new.variables ≡ is_literal order.old.variables }
-    ensures capacity { order.new.capacity ≡ order.old.capacity }
-{
-    order.undo(n.min(order.asserted()));
-}
-
-// What a row of literals must answer.
+/// What a row of literals must answer.
 struct Row {
     name: &'static str,
-    // `x - y <= c`, one after another.
+    /// `x - y <= c`, one after another.
     literals: &'static [(u32, u32, i128)],
-    // The positions of the conflict, if the last one is not met.
+    /// The positions of the conflict, if the last one is not met.
     conflict: Option<&'static [u32]>,
-    // The only model, if there is only one that the row looks at.
+    /// The only model, if there is only one that the row looks at.
     model: Option<[i64; VARIABLES]>,
 }
 
-// Literals whose answers are known, each row by itself.
+/// Literals whose answers are known, each row by itself.
 const ROWS: [Row; 13] = [
     Row {
         name: "no number is above the range",
@@ -201,7 +192,7 @@ const ROWS: [Row; 13] = [
     },
 ];
 
-// Asserts literals one after another. Says whether the last one is met.
+/// Asserts literals one after another. Says whether the last one is met.
 fn ask_each(order: &mut Order, core: &mut LitBuf<u32>, literals: &[(u32, u32, i128)]) -> bool
     requires has_model { HasModel (is_assignment order.old.variables) meets order.old.literals }
     requires takes { is_literal order.old.variables ≡ is_literal VARIABLES }
@@ -238,116 +229,6 @@ fn check_row(rt: &impl Abort, alloc: Global, row: &Row) -> Result<(), AllocError
 fn rows(rt: HostRuntime) -> Result<(), Fail> {
     for row in &ROWS {
         check_row(&rt, rt.alloc(), row)?;
-    }
-    Ok(())
-}
-
-fn value(column: &[i64], v: u32) -> i128 {
-    i128::from(column.get(v as usize).copied().unwrap_or(0))
-}
-
-fn meets_all(column: &[i64], literals: &[Diff]) -> bool {
-    for l in literals {
-        if value(column, l.x).saturating_sub(value(column, l.y)) > l.c {
-            return false;
-        }
-    }
-    true
-}
-
-// Whether some column meets the literals, by a search of all columns with numbers from -9 to 9: with
-// four variables and bounds from -3 to 3 there is one of these if there is any.
-fn some_column_meets(literals: &[Diff]) -> bool {
-    for index in 0..19 * 19 * 19u32 {
-        let column = [
-            0,
-            i64::from(index % 19) - 9,
-            i64::from(index / 19 % 19) - 9,
-            i64::from(index / 361 % 19) - 9,
-        ];
-        if meets_all(&column, literals) {
-            return true;
-        }
-    }
-    false
-}
-
-// Whether the positions are those of different literals that no column meets.
-fn is_conflict(alloc: Global, literals: &[Diff], positions: &[u32]) -> Result<bool, AllocError> {
-    let mut chosen = Vec::new(alloc);
-    let mut seen = [false; CAPACITY];
-    for p in positions {
-        let p = *p as usize;
-        if p >= CAPACITY || p >= literals.len() || seen[p] {
-            return Ok(false);
-        }
-        seen[p] = true;
-        chosen.push(literals[p])?;
-    }
-    Ok(!some_column_meets(&chosen))
-}
-
-// Asserts a literal that is drawn, after some were taken back where there is no more room, and
-// compares the answers with the search of all columns.
-fn turn(
-    rt: &impl Abort,
-    alloc: Global,
-    order: &mut Order,
-    core: &mut LitBuf<u32>,
-    listed: &mut Vec<Diff>,
-    draw: u64,
-) -> Result<(), AllocError>
-    requires has_model { HasModel (is_assignment order.old.variables) meets order.old.literals }
-    requires takes { is_literal order.old.variables ≡ is_literal VARIABLES }
-    requires capacity { order.old.capacity ≡ CAPACITY }
-    requires core_room { core.old.capacity ≡ CAPACITY }
-    ensures has_model { HasModel (is_assignment order.new.variables) meets order.new.literals }
-    ensures takes { is_literal order.new.variables ≡ is_literal VARIABLES }
-    ensures capacity { order.new.capacity ≡ CAPACITY }
-    ensures core_room { core.new.capacity ≡ CAPACITY }
-{
-    if listed.len() == CAPACITY {
-        let n = 1 + (draw / 1024 % 6) as usize;
-        take_back(order, n);
-        listed.truncate(CAPACITY - n);
-    }
-    let l = Diff {
-        x: (draw % 4) as u32,
-        y: (draw / 4 % 4) as u32,
-        c: i128::from(draw / 16 % 7) - 3,
-    };
-    listed.push(l)?;
-    let met = ask_row(order, core, l.x, l.y, l.c);
-    assert_eq!(rt; met, some_column_meets(listed));
-    if met {
-        let column = order.model()?;
-        assert!(rt; meets_all(column.as_slice(), listed));
-    } else {
-        assert!(rt; is_conflict(alloc, listed, core.items())?);
-        listed.truncate(listed.len().saturating_sub(1));
-    }
-    assert_eq!(rt; order.asserted(), listed.len());
-    Ok(())
-}
-
-#[test]
-fn agrees_with_a_search_of_all_columns(rt: HostRuntime) -> Result<(), Fail> {
-    let mut order = start(rt.alloc())?;
-    let mut core = LitBuf::new(rt.alloc(), CAPACITY)?;
-    let mut listed = Vec::new(rt.alloc());
-    let mut seed = 88_172_645_463_325_252u64;
-    for _draw in 0..2000 {
-        seed ^= seed << 13;
-        seed ^= seed >> 7;
-        seed ^= seed << 17;
-        turn(
-            &rt,
-            rt.alloc(),
-            &mut order,
-            &mut core,
-            &mut listed,
-            seed / 8,
-        )?;
     }
     Ok(())
 }

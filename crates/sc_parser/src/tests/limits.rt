@@ -1,3 +1,5 @@
+//! Each limit on both of its sides.
+
 use crate::tests::spellings::{script_of, spec_of};
 use std::alloc::Global;
 use std::test::Fail;

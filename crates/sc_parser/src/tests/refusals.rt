@@ -1,3 +1,5 @@
+//! Texts that spell no tree.
+
 use crate::SyntaxErr;
 use crate::tests::spellings::{script_of, spec_of};
 

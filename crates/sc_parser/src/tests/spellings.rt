@@ -1,3 +1,5 @@
+//! Texts and the trees that they spell.
+
 use crate::tests::shown::{shown_script, shown_spec};
 use crate::{SyntaxErr, parse_script, parse_spec};
 use sc_ast::{Script, Spec};

@@ -1,14 +1,17 @@
-ghost use Rattle.std.specs.Prelude.{◌≡◌, ◌↔◌, ◌≤◌, IsTrue, MatchOption};
+ghost use Rattle.std.specs.Prelude.{◌≡◌, ◌↔◌, ◌<◌, ◌≤◌, ◌∷◌, [], None, length, IsTrue, MatchOption};
 ghost use Rattle.std.specs.Bool.{OnTrue, OnFalse};
 ghost use Rattle.sc_solver.specs.Dropping.{IsDropped, before_decision};
-ghost use Rattle.sc_solver.specs.Marks.{IsFreeLevel, IsRefutedMarked};
-ghost use Rattle.sc_solver.specs.SearchView.{Lawful, SameProblem};
-ghost use Rattle.sc_solver.specs.Steps.{IsExhausted, IsTakenBack};
+ghost use Rattle.sc_solver.specs.Marks.{ForcesMarked, IsFreeLevel, IsRefutedMarked};
+ghost use Rattle.sc_solver.specs.ContextView.{Lawful, SameProblem};
+ghost use Rattle.sc_solver.specs.Steps.{IsExhausted, IsReached, IsTakenBack, work};
+ghost use Rattle.sc_solver.specs.Trail.{trail_literals, value_in};
 ghost use Rattle.sc_solver.specs.Work.{rest};
 
 use super::Learner;
 use crate::literal::PLit;
-use sc_theory::Theory;
+use crate::progress::Progress;
+use crate::trail::Entry;
+use sc_procedure::Theory;
 
 impl<T: Theory> Learner<T> {
     /// Takes literals back, each for what it follows from, up to the first that alone stands for
@@ -29,6 +32,8 @@ impl<T: Theory> Learner<T> {
     {
         while let Some(entry) = self.state.pop() {
             let literal = entry.literal;
+            self.preferences.offer(literal.var);
+            self.watches.rewind(self.state.len());
             if self.marks[literal.var as usize] {
                 self.preferences.raise(literal.var);
                 if entry.decided {
@@ -55,7 +60,7 @@ impl<T: Theory> Learner<T> {
     {
         let free = self.state.trail().is_free_level(self.marks.as_slice());
         if free {
-            self.state.pop_level();
+            self.pop_level();
         }
         free
     }
@@ -71,5 +76,73 @@ impl<T: Theory> Learner<T> {
             rest vars self.new.state.entries ≤ rest vars self.old.state.entries }
     {
         while self.pop_free_level() {}
+    }
+
+    /// Takes the latest literal back, whose variable may be decided again.
+    fn pop(&mut self) -> Option<Entry>
+        ensures problem { SameProblem T.capacity T.takes T.models self.old.state self.new.state }
+        ensures kept { self.new ≡ record self.old { state = self.new.state } }
+        ensures entries { MatchOption result
+            ((self.old.state.entries ≡ []) × (self.new.state.entries ≡ []))
+            (λ e. self.old.state.entries ≡ e ∷ self.new.state.entries) }
+        ensures in_step { T.literals self.new.state.theory
+            ≡ trail_literals self.new.state.atoms self.new.state.entries }
+    {
+        let entry = self.state.pop()?;
+        self.preferences.offer(entry.literal.var);
+        self.watches.rewind(self.state.len());
+        Some(entry)
+    }
+
+    /// Takes literals back up to the latest decision, which goes too.
+    pub fn pop_level(&mut self)
+        ensures problem { SameProblem T.capacity T.takes T.models self.old.state self.new.state }
+        ensures kept { self.new ≡ record self.old { state = self.new.state } }
+        ensures entries { self.new.state.entries ≡ before_decision self.old.state.entries }
+    {
+        while let Some(entry) = self.pop() {
+            if entry.decided {
+                return;
+            }
+        }
+    }
+
+    /// Takes all decisions back, and what was set since. What was set before them stays.
+    pub fn pop_decisions(&mut self)
+        ensures problem { SameProblem T.capacity T.takes T.models self.old.state self.new.state }
+        ensures kept { self.new ≡ record self.old { state = self.new.state } }
+        ensures few { length self.new.state.entries ≤ self.new.state.vars }
+    {
+        for _ in 0..self.state.decisions() {
+            self.pop_level();
+        }
+        self.watches.rewind(self.state.len());
+    }
+
+    /// Takes everything back that is set. What was learned stays.
+    pub fn restart(&mut self)
+        ensures problem { SameProblem T.capacity T.takes T.models self.old.state self.new.state }
+        ensures unset { self.new.state.entries ≡ [] }
+        ensures nothing { T.literals self.new.state.theory ≡ [] }
+        ensures kept { self.new ≡ record self.old { state = self.new.state } }
+    {
+        while self.pop().is_some() {}
+    }
+
+    /// Learns from what is marked, goes back over the decisions that have no part in it, and follows
+    /// the literal that it forces.
+    pub fn conclude(&mut self, literal: PLit) -> Progress
+        requires within { literal.var < self.old.state.vars }
+        requires unset { value_in self.old.state.entries literal.var ≡ None }
+        requires forced { ForcesMarked (Lawful T.models T.meets self.old.state) self.old.marks
+            self.old.state.entries literal }
+        ensures problem { SameProblem T.capacity T.takes T.models self.old.state self.new.state }
+        ensures reached { IsReached T.literals T.models T.meets result self.new.marks self.new.state }
+        ensures less { work result self.new.state ≤ rest self.old.state.vars self.old.state.entries }
+    {
+        self.thin();
+        self.pop_free_levels();
+        let reason = self.learn(literal);
+        self.follow(literal, reason)
     }
 }

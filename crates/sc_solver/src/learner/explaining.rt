@@ -1,20 +1,19 @@
-ghost use Rattle.std.specs.Prelude.{◌≡◌, ◌<◌, ◌+◌, ◌⊎◌, length, List, Bool, IsTrue, MatchOption, replicate, reverse, slice_get, slice_set, true, false};
+ghost use Rattle.std.specs.Prelude.{◌≡◌, ◌<◌, ◌+◌, ◌⊎◌, length, List, Bool, IsTrue, MatchOption, replicate, reverse, slice_get, slice_set, true, false, Some};
 ghost use Rattle.std.specs.Bool.{OnTrue};
 ghost use Rattle.std.specs.Option.{IfSome};
 ghost use Rattle.sc_solver.specs.Assignment.{literal_value, value_at};
-ghost use Rattle.sc_solver.specs.Learned.{IsPushed, IsSpent};
 ghost use Rattle.sc_solver.specs.LearnerView.{IsExplained, IsThin, IsThinnedAt, clause_by};
 ghost use Rattle.sc_solver.specs.Marks.{ForcesMarked, HasMarks, IsAsStrong, IsBacked, IsBackedMarked, IsMarkedBy, IsShownBy, collected};
 ghost use Rattle.sc_solver.specs.Preferences.{aged, raised_all};
 ghost use Rattle.sc_solver.specs.Root.{AreImplied, oldest};
-ghost use Rattle.sc_solver.specs.SearchView.{Lawful};
+ghost use Rattle.sc_solver.specs.ContextView.{Lawful};
 ghost use Rattle.sc_solver.specs.Trail.{value_in, IsTrail};
 
 use super::Learner;
 use crate::literal::PLit;
 use crate::marking::{is_marked_but, mark_clause};
 use crate::reason::Reason;
-use sc_theory::Theory;
+use sc_procedure::Theory;
 
 impl<T: Theory> Learner<T> {
     /// Marks why a literal follows, or where there is none why the trail is refuted: by the clause
@@ -52,7 +51,7 @@ impl<T: Theory> Learner<T> {
                 self.state
                     .mark_clause(index, literal, self.marks.as_mut_slice())
             }
-            Reason::Learned(number) => match self.learned.clause(number) {
+            Reason::Learned(slot) => match self.learned.clause(slot) {
                 Some(clause) => mark_clause(trail, clause, literal, self.marks.as_mut_slice()),
                 None => false,
             },
@@ -120,7 +119,7 @@ impl<T: Theory> Learner<T> {
         }
         match self.reasons[literal.var as usize] {
             Reason::Given(index) => self.state.is_explained(index, literal, marks),
-            Reason::Learned(number) => match self.learned.clause(number) {
+            Reason::Learned(slot) => match self.learned.clause(slot) {
                 Some(clause) => is_marked_but(self.state.trail(), clause, literal, marks),
                 None => false,
             },
@@ -140,18 +139,16 @@ impl<T: Theory> Learner<T> {
               learned = self.new.learned;
               preferences = aged (raised_all self.old.preferences clause);
             } }
-        ensures pushed { let clause = collected literal self.old.marks self.old.state.entries in
-            IsPushed self.old.learned self.new.learned clause }
         ensures reason { let clause = collected literal self.old.marks self.old.state.entries in
-            MatchOption (clause_by self.new result) (IsSpent self.new.learned)
-            (λ there. there ≡ clause) }
+            clause_by self.new result ≡ Some clause }
     {
         self.state
             .collect(literal, self.marks.as_slice(), &mut self.draft);
         self.marks.fill(false);
         self.preferences.raise_all(self.draft.items());
         self.preferences.age();
-        self.learned.push(self.draft.items());
-        Reason::from_number(self.learned.last_number())
+        let slot = self.learned.push(self.draft.items());
+        self.watches.attach(slot, self.draft.items());
+        Reason::Learned(slot)
     }
 }

@@ -1,101 +1,47 @@
-ghost use Rattle.std.specs.Prelude.{◌≡◌, ◌++◌, MatchOption};
-ghost use Rattle.sc_solver.specs.Learned.{IsSpent, learned_list};
-ghost use Rattle.sc_solver.specs.LearnerView.{IsMet};
-ghost use Rattle.sc_solver.specs.Scanned.{IsScanned, IsScannedLearned};
-ghost use Rattle.sc_solver.specs.SearchView.{Lawful};
+ghost use Rattle.std.specs.Prelude.{◌≡◌};
+ghost use Rattle.sc_solver.specs.ContextView.{Lawful};
+ghost use Rattle.sc_solver.specs.LearnerView.{clause_by};
+ghost use Rattle.sc_solver.specs.Scanned.{IsMetIn};
+ghost use Rattle.sc_solver.specs.Watches.{IsMet};
 
 use super::Learner;
 use crate::reason::Reason;
-use crate::units::ClauseState;
-use sc_theory::Theory;
-
-/// What a scan met: a conflict or a unit and its clause, or `Open`.
-#[derive(Clone, Copy)]
-pub struct Step {
-    pub state: ClauseState,
-    pub reason: Reason,
-}
+use crate::units::{ClauseState, scan};
+use crate::watches::Step;
+use sc_procedure::Theory;
 
 impl<T: Theory> Learner<T> {
-    /// A conflict or unit among all clauses, or `Open` where there is none. Those are scanned first
-    /// among which the last one was.
+    /// A conflict or unit that was met: among the clauses that watch what became false, and among
+    /// those that were not looked at yet.
     pub fn scan(&mut self) -> Step
         ensures kept { self.new ≡ self.old }
-        ensures scanned { IsScanned T.literals T.models T.meets result.state self.old.state }
-        ensures met { IsMet self.old (self.old.state.clauses ++ learned_list self.old.learned)
-            result.state result.reason }
+        ensures shown { IsMetIn (Lawful T.models T.meets self.old.state) self.old.state.vars
+            self.old.state.entries result.state }
+        ensures met { IsMet self.old.state.entries (clause_by self.old result.reason) result.state }
     {
-        if self.learned_first {
-            self.scan_learned_first()
-        } else {
-            self.scan_given_first()
+        let trail = self.state.trail();
+        let given = self.state.clauses();
+        let step = self.watches.find(trail, given, &self.learned, true);
+        match step.state {
+            ClauseState::Open => self.scan_new(),
+            _ => step,
         }
     }
 
-    /// The same, those that were learned first.
-    fn scan_learned_first(&mut self) -> Step
+    /// The same among the clauses that were not looked at yet.
+    fn scan_new(&mut self) -> Step
         ensures kept { self.new ≡ self.old }
-        ensures scanned { IsScanned T.literals T.models T.meets result.state self.old.state }
-        ensures met { IsMet self.old (self.old.state.clauses ++ learned_list self.old.learned)
-            result.state result.reason }
+        ensures shown { IsMetIn (Lawful T.models T.meets self.old.state) self.old.state.vars
+            self.old.state.entries result.state }
+        ensures met { IsMet self.old.state.entries (clause_by self.old result.reason) result.state }
     {
-        let learned = self.scan_learned();
-        match learned.state {
-            ClauseState::Open => {
-                self.learned_first = false;
-                self.scan_given()
-            }
-            _ => learned,
-        }
-    }
-
-    /// The same, those that were learned last.
-    fn scan_given_first(&mut self) -> Step
-        ensures kept { self.new ≡ self.old }
-        ensures scanned { IsScanned T.literals T.models T.meets result.state self.old.state }
-        ensures met { IsMet self.old (self.old.state.clauses ++ learned_list self.old.learned)
-            result.state result.reason }
-    {
-        let given = self.scan_given();
-        match given.state {
-            ClauseState::Open => (),
-            _ => return given,
-        }
-        let learned = self.scan_learned();
-        match learned.state {
-            ClauseState::Open => given,
-            _ => {
-                self.learned_first = true;
-                learned
-            }
-        }
-    }
-
-    /// A conflict or unit among the clauses that are searched.
-    fn scan_given(&mut self) -> Step
-        ensures kept { self.new ≡ self.old }
-        ensures scanned { IsScanned T.literals T.models T.meets result.state self.old.state }
-        ensures met { IsMet self.old self.old.state.clauses result.state result.reason }
-    {
-        let found = self.state.find_unit(self.next);
-        self.next = found.clause.saturating_add(1);
+        let given = self.state.clauses();
+        let count = given.len();
+        let found = scan(self.state.trail(), given, self.next.min(count), count);
+        self.next = found.clause.saturating_add(1).min(count);
         Step {
             state: found.state,
             reason: Reason::Given(found.clause),
-        }
-    }
-
-    /// A conflict or unit among the clauses that were learned.
-    fn scan_learned(&mut self) -> Step
-        ensures kept { self.new ≡ self.old }
-        ensures scanned { IsScannedLearned (Lawful T.models T.meets self.old.state) self.old.state.vars
-            self.old.state.entries result.state }
-        ensures met { IsMet self.old (learned_list self.old.learned) result.state result.reason }
-    {
-        let found = self.learned.find_unit(self.state.trail());
-        Step {
-            state: found.state,
-            reason: Reason::from_number(found.number),
         }
     }
 }

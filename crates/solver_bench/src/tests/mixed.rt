@@ -1,9 +1,9 @@
 ghost use Rattle.std.specs.Prelude.{◌≡◌, ◌<◌, ◌≤◌, ◌+◌, length, All, IfOk, OnOk, IsTrue};
-ghost use Rattle.sc_theory.specs.Equality.{takes_literal};
-ghost use Rattle.sc_theory.specs.Pair.{takes_own};
+ghost use Rattle.sc_equality.specs.Equality.{takes_literal};
+ghost use Rattle.sc_pair.specs.Pair.{takes_own};
 ghost use Rattle.sc_order.specs.Difference.{is_literal};
 ghost use Rattle.sc_solver.specs.Clauses.{IsWithin};
-ghost use Rattle.sc_solver.specs.SearchView.{IsTaken};
+ghost use Rattle.sc_solver.specs.ContextView.{IsTaken};
 
 use sc_order::{Diff, Order};
 use sc_solver::{Answer, PLit, Solver};

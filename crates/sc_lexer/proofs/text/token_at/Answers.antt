@@ -36,9 +36,9 @@ returns-in-Ok-clause-within c =
 pub returns-in-Err-clause-value : goal.returns-in-Err-clause-value
 returns-in-Err-clause-value c =
     let found = rw take_rest at c.in-Err.ensures.value in
-    rw c.new.ensures (ap (placed c.args.at) found)
+    rw c.refusal.ensures (ap (placed c.args.at) found)
 
 pub returns-in-Err-clause-only : goal.returns-in-Err-clause-only
 returns-in-Err-clause-only c token same is =
     let found = rw take_rest at c.in-Err.ensures.value in
-    rw c.new.ensures (ap (placed c.args.at) found) ∙ placed_token c.args.text.now c.args.at token same is
+    rw c.refusal.ensures (ap (placed c.args.at) found) ∙ placed_token c.args.text.now c.args.at token same is

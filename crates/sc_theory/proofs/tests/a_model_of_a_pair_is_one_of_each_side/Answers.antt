@@ -1,8 +1,8 @@
 use Rattle.std.proofs.Common.{ap}
-use Rattle.sc_theory.specs.Pair.{PairState}
-use Rattle.sc_theory.specs.Equality.{Equalities, is_classes, meets_literal}
-use Rattle.sc_theory.specs.EmptyClasses.{empty_has_classes}
-use Rattle.sc_theory.proofs.PairModels.{HasModel-no_sides}
+use Rattle.sc_pair.specs.Pair.{PairState}
+use Rattle.sc_equality.specs.Equality.{Equalities, is_classes, meets_literal}
+use Rattle.sc_equality.specs.EmptyClasses.{empty_has_classes}
+use Rattle.sc_pair.proofs.PairModels.{HasModel-no_sides}
 use Rattle.sc_theory.proofs.tests.a_model_of_a_pair_is_one_of_each_side.Goals as goal
 
 pub model-requires : goal.model-requires

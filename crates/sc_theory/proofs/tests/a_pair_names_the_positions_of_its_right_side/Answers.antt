@@ -1,8 +1,8 @@
 use Rattle.std.proofs.Common.{ap}
-use Rattle.sc_theory.specs.Pair.{PairState}
-use Rattle.sc_theory.specs.Equality.{Equalities, is_classes, meets_literal}
-use Rattle.sc_theory.specs.EmptyClasses.{empty_has_classes}
-use Rattle.sc_theory.proofs.PairModels.{HasModel-no_sides}
+use Rattle.sc_pair.specs.Pair.{PairState}
+use Rattle.sc_equality.specs.Equality.{Equalities, is_classes, meets_literal}
+use Rattle.sc_equality.specs.EmptyClasses.{empty_has_classes}
+use Rattle.sc_pair.proofs.PairModels.{HasModel-no_sides}
 use Rattle.sc_theory.proofs.tests.a_pair_names_the_positions_of_its_right_side.Goals as goal
 
 pub has_core-requires-clause-has_model : goal.has_core-requires-clause-has_model

@@ -1,6 +1,6 @@
 -- What is asserted has a model, and is no more than what the loop has passed.
 use Rattle.std.proofs.Common.{◌≡◌, ◌≤◌, length}
-use Rattle.sc_theory.specs.Models.{HasModel}
+use Rattle.sc_procedure.specs.Models.{HasModel}
 use Rattle.theories_bench.proofs.drive.drive.Given as goal
 
 abbrev pub invariant-loop-literal : goal.invariant-loop-literal

@@ -1,6 +1,6 @@
 -- There is a literal for each place that the loop has passed.
 use Rattle.std.proofs.Common.{◌≡◌, length, IsTrue, All}
-use Rattle.sc_theory.specs.Equality.{takes_literal}
+use Rattle.sc_equality.specs.Equality.{takes_literal}
 use Rattle.theories_bench.proofs.terms.equalities.Given as goal
 
 abbrev pub invariant-loop-place : goal.invariant-loop-place

@@ -1,5 +1,5 @@
 use Rattle.std.proofs.Common.{◌↔◌, not, IsTrue, sym, subst}
-use Rattle.sc_theory.specs.Models.{HasModel}
+use Rattle.sc_procedure.specs.Models.{HasModel}
 use Rattle.sc_order.specs.Difference.{Constraints, is_assignment, meets}
 use Rattle.sc_order.specs.Order.{IsOrder}
 use Rattle.sc_order.proofs.StateLemmas.{not_refuted, potential_of_all, IsOrder-assert, verdict}

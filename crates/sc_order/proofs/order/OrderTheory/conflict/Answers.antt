@@ -1,5 +1,5 @@
 use Rattle.std.proofs.Common.{◌≤◌, length, sym, subst, arith}
-use Rattle.sc_theory.specs.Models.{HasModel, IsCore}
+use Rattle.sc_procedure.specs.Models.{HasModel, IsCore}
 use Rattle.sc_order.specs.Difference.{Constraints, is_assignment, meets}
 use Rattle.sc_order.proofs.ModelLemmas.{IsCore-conflict}
 use Rattle.sc_order.proofs.ConflictLemmas.{length-le_from_positions}

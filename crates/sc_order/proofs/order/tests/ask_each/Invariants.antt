@@ -1,5 +1,5 @@
 use Rattle.std.proofs.Common.{◌≡◌}
-use Rattle.sc_theory.specs.Models.{HasModel}
+use Rattle.sc_procedure.specs.Models.{HasModel}
 use Rattle.sc_order.specs.Difference.{is_assignment, meets, is_literal}
 use Rattle.sc_order.proofs.order.tests.ask_each.Given as goal
 

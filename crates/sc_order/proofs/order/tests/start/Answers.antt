@@ -1,6 +1,6 @@
 use Rattle.std.proofs.Common.{◌≡◌, [], sym, subst}
 use Rattle.std.proofs.lemmas.Result.{IfOk-weaker}
-use Rattle.sc_theory.specs.Models.{HasModel}
+use Rattle.sc_procedure.specs.Models.{HasModel}
 use Rattle.sc_order.specs.Difference.{Constraints, is_assignment, meets}
 use Rattle.sc_order.specs.Zero.{zero_is_model}
 use Rattle.sc_order.proofs.order.tests.start.Goals as goal

@@ -1,6 +1,6 @@
 use Rattle.std.proofs.Common.{true, ap, replicate, ◌∙◌}
 use Rattle.sc_solver.specs.LearnerView.{LearnerView}
-use Rattle.sc_solver.specs.SearchView.{Lawful}
+use Rattle.sc_solver.specs.ContextView.{Lawful}
 use Rattle.sc_solver.proofs.MarkedTrails.{IsBackedMarked-all}
 use Rattle.sc_solver.proofs.learner.Learner.explain.Goals as goal
 

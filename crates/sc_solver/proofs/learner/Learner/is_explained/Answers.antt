@@ -8,10 +8,11 @@ use Rattle.std.proofs.lemmas.List.Elements.{All-contains}
 use Rattle.sc_solver.specs.declared.reason.Reason.{Reason}
 use Rattle.sc_solver.specs.declared.reason.Reason.TheVariants.{Given, Learned, Unknown}
 use Rattle.sc_solver.specs.Assignment.{value_at}
+use Rattle.sc_solver.specs.Clauses.{IsWithin}
 use Rattle.sc_solver.specs.Learned.{clause_of, learned_list}
 use Rattle.sc_solver.specs.LearnerView.{LearnerView, clause_by}
 use Rattle.sc_solver.specs.Marks.{ForcesMarked, IsEntailed, IsMarkedBut}
-use Rattle.sc_solver.specs.SearchView.{Lawful}
+use Rattle.sc_solver.specs.ContextView.{Lawful}
 use Rattle.sc_solver.proofs.Generations.{clause_of-there}
 use Rattle.sc_solver.proofs.MarkedTrails.{IsBackedMarked-clause}
 use Rattle.sc_solver.proofs.learner.Learner.is_explained.Goals as goal
@@ -22,7 +23,7 @@ returns-in-Some-clause-forced g c =
     let s = c.self.inside.state in
     let l = c.args.literal in
     let marks = set c.self.inside.marks.items l.var false in
-    let entailed = All-contains (IsEntailed (Lawful T.models T.meets s)) (learned_list c.self.inside.learned) c.in-Some.clause.now c.self.invariant.entailed (clause_of-there c.self.inside.learned c.in-Learned.number c.in-Some.clause.now c.in-Some.ensures) in
+    let entailed = All-contains (IsEntailed (Lawful T.models T.meets s)) (learned_list c.self.inside.learned) c.in-Some.clause.now c.self.invariant.entailed (clause_of-there c.self.inside.learned c.in-Learned.slot c.in-Some.clause.now c.in-Some.ensures) in
     subst (λ (v : LearnerView _ _). OnTrue c.is_marked_but.result (ForcesMarked (Lawful T.models T.meets v.state) (set v.marks l.var false) v.state.entries l)) c.self.view_is
     (OnTrue_from c.is_marked_but.result _
     (λ shown. IsBackedMarked-clause (Lawful T.models T.meets s) marks s.entries (Some l) c.in-Some.clause.now entailed
@@ -57,8 +58,8 @@ returns-in-Some-clause-by g c =
     let l = c.args.literal in
     let r = c.index.result.now in
     let within : l.var < length c.self.inside.reasons.items = omega (arith, c.requires.within, c.self.invariant.reason_each, ap (λ (v : LearnerView _ _). v.state.vars) c.self.view_is, c.self.inside.reasons.ok.0) in
-    let read : get_or now.reasons l.var Unknown ≡ Learned c.in-Learned.number = sym (ap (λ (v : LearnerView _ _). get_or v.reasons l.var Unknown) c.self.view_is) ∙ get_or_default c.self.inside.reasons.items l.var Unknown r within ∙ sym c.index.ensures ∙ c.in-Learned.is in
-    let there = subst (λ (v : LearnerView _ _). Some c.in-Some.clause.now ≡ clause_of v.learned c.in-Learned.number) c.self.view_is c.in-Some.ensures in
+    let read : get_or now.reasons l.var Unknown ≡ Learned c.in-Learned.slot = sym (ap (λ (v : LearnerView _ _). get_or v.reasons l.var Unknown) c.self.view_is) ∙ get_or_default c.self.inside.reasons.items l.var Unknown r within ∙ sym c.index.ensures ∙ c.in-Learned.is in
+    let there = subst (λ (v : LearnerView _ _). Some c.in-Some.clause.now ≡ clause_of v.learned c.in-Learned.slot) c.self.view_is c.in-Some.ensures in
     let marked = subst (λ es. IsTrue c.is_marked_but.result ↔ IsMarkedBut (set c.as_slice-marks.result.now l.var false) es (Some l) c.in-Some.clause.now) c.trail.ensures.entries c.is_marked_but.ensures in
     let by = subst (λ (v : LearnerView _ _). IsTrue c.is_marked_but.result ↔ IsMarkedBut (set v.marks l.var false) v.state.entries (Some l) c.in-Some.clause.now) c.self.view_is
     (subst (λ marks. IsTrue c.is_marked_but.result ↔ IsMarkedBut (set marks l.var false) c.self.inside.state.entries (Some l) c.in-Some.clause.now) c.as_slice-marks.ensures.value marked) in
@@ -70,10 +71,17 @@ returns-in-Some-clause-only g c =
     let l = c.args.literal in
     let r = c.index.result.now in
     let within : l.var < length c.self.inside.reasons.items = omega (arith, c.requires.within, c.self.invariant.reason_each, ap (λ (v : LearnerView _ _). v.state.vars) c.self.view_is, c.self.inside.reasons.ok.0) in
-    let read : get_or now.reasons l.var Unknown ≡ Learned c.in-Learned.number = sym (ap (λ (v : LearnerView _ _). get_or v.reasons l.var Unknown) c.self.view_is) ∙ get_or_default c.self.inside.reasons.items l.var Unknown r within ∙ sym c.index.ensures ∙ c.in-Learned.is in
-    let there = subst (λ (v : LearnerView _ _). Some c.in-Some.clause.now ≡ clause_of v.learned c.in-Learned.number) c.self.view_is c.in-Some.ensures in
+    let read : get_or now.reasons l.var Unknown ≡ Learned c.in-Learned.slot = sym (ap (λ (v : LearnerView _ _). get_or v.reasons l.var Unknown) c.self.view_is) ∙ get_or_default c.self.inside.reasons.items l.var Unknown r within ∙ sym c.index.ensures ∙ c.in-Learned.is in
+    let there = subst (λ (v : LearnerView _ _). Some c.in-Some.clause.now ≡ clause_of v.learned c.in-Learned.slot) c.self.view_is c.in-Some.ensures in
     let marked = subst (λ es. IsTrue c.is_marked_but.result ↔ IsMarkedBut (set c.as_slice-marks.result.now l.var false) es (Some l) c.in-Some.clause.now) c.trail.ensures.entries c.is_marked_but.ensures in
     let by = subst (λ (v : LearnerView _ _). IsTrue c.is_marked_but.result ↔ IsMarkedBut (set v.marks l.var false) v.state.entries (Some l) c.in-Some.clause.now) c.self.view_is
     (subst (λ marks. IsTrue c.is_marked_but.result ↔ IsMarkedBut (set marks l.var false) c.self.inside.state.entries (Some l) c.in-Some.clause.now) c.as_slice-marks.ensures.value marked) in
     let marked_now : IsTrue (value_at now.marks l.var) = sym (ap (λ (v : LearnerView _ _). value_at v.marks l.var) c.self.view_is) ∙ sym (ap (λ marks. value_at marks l.var) c.as_slice-marks.ensures.value) ∙ c.if-not-marks-literal.false in
     λ t. inr (marked_now, subst (λ (x : Reason). IsSomeAnd (clause_by now x) (IsMarkedBut (set now.marks l.var false) now.state.entries (Some l))) (sym read) (subst (λ o. IsSomeAnd o (IsMarkedBut (set now.marks l.var false) now.state.entries (Some l))) there (by.0 t)))
+
+pub is_marked_but-requires-clause-within : goal.is_marked_but-requires-clause-within
+is_marked_but-requires-clause-within g c =
+    let learned = c.self.inside.learned in
+    rw c.trail.ensures.vars
+    (All-contains (IsWithin c.self.inside.state.vars) (learned_list learned) c.in-Some.clause.now c.self.invariant.within
+    (clause_of-there learned c.in-Learned.slot c.in-Some.clause.now c.in-Some.ensures))

@@ -1,5 +1,8 @@
 use Rattle.std.proofs.Common.{◌≡◌, length, ap, ◌∙◌, rules}
+use Rattle.sc_solver.specs.Clauses.{IsWithin}
+use Rattle.sc_solver.specs.Learned.{learned_list}
 use Rattle.sc_solver.specs.Preferences.{PreferencesView}
+use Rattle.sc_solver.proofs.Generations.{All-among}
 use Rattle.sc_solver.proofs.Scores.{length-raised_all, length-aged}
 use Rattle.sc_solver.proofs.learner.Learner.learn.Goals as goal
 
@@ -10,10 +13,11 @@ invariant_of-self g c =
     ap size c.age.ensures ∙ length-aged c.raise_all.new.self ∙ ap size c.raise_all.ensures ∙ length-raised_all c.self.inside.preferences c.items.result.now in
     record {
       entailed = search rules;
-      within = search rules;
+      within = All-among (IsWithin c.self.inside.state.vars) (learned_list c.self.inside.learned) (learned_list c.push-slot.new.self) c.items-2.result.now c.self.invariant.within (rw c.items-2.ensures c.collect.ensures.within) c.push-slot.ensures.among;
       wide = search rules;
       mark_each = search rules;
       reason_each = search rules;
       score_each = scores ∙ c.self.invariant.score_each;
       room_for_all = search rules;
+      watch_each = search rules;
     }

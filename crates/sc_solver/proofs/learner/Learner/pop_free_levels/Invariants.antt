@@ -1,7 +1,7 @@
 -- What is gone was not marked, and there is no more work left.
 use Rattle.std.proofs.Common.{◌≡◌, ◌≤◌}
 use Rattle.sc_solver.specs.Dropping.{IsDropped}
-use Rattle.sc_solver.specs.SearchView.{SameProblem}
+use Rattle.sc_solver.specs.ContextView.{SameProblem}
 use Rattle.sc_solver.specs.Work.{pending, rest}
 use Rattle.sc_solver.proofs.learner.Learner.pop_free_levels.Given as goal
 

@@ -2,7 +2,7 @@ use Rattle.std.proofs.Common.{◌≡◌, ◌≤◌, ap, refl, sym, subst, ◌∙
 use Rattle.sc_solver.specs.Dropping.{before_decision}
 use Rattle.sc_solver.specs.LearnerView.{LearnerView}
 use Rattle.sc_solver.specs.Marks.{IsRefutedMarked}
-use Rattle.sc_solver.specs.SearchView.{Lawful, SameProblem}
+use Rattle.sc_solver.specs.ContextView.{Lawful, SameProblem}
 use Rattle.sc_solver.specs.Work.{pending}
 use Rattle.sc_solver.proofs.Droppings.{free_level_dropped}
 use Rattle.sc_solver.proofs.Problems.{SameProblem-sym, SameProblem-trans, ForcesMarked-after, same_parts}

@@ -1,7 +1,7 @@
 -- What is left and marked is refuted, and there is no more work left.
 use Rattle.std.proofs.Common.{◌≡◌, ◌≤◌, length}
 use Rattle.sc_solver.specs.Marks.{IsRefutedMarked}
-use Rattle.sc_solver.specs.SearchView.{Lawful, SameProblem}
+use Rattle.sc_solver.specs.ContextView.{Lawful, SameProblem}
 use Rattle.sc_solver.specs.Work.{pending}
 use Rattle.sc_solver.proofs.learner.Learner.pop_to_point.Given as goal
 

@@ -1,6 +1,8 @@
--- What is known where the search stands.
-use Rattle.sc_solver.specs.SearchView.{SameProblem}
+-- What is known where the search stands. What is left of it is counted with the restarts in front.
+use Rattle.std.proofs.Common.{◌+◌, ◌*◌}
+use Rattle.sc_solver.specs.ContextView.{SameProblem}
 use Rattle.sc_solver.specs.Steps.{IsReached, work}
+use Rattle.sc_solver.specs.Work.{tree_size}
 use Rattle.sc_solver.proofs.learner.Learner.run.Given as goal
 
 abbrev pub invariant-loop-progress : goal.invariant-loop-progress
@@ -10,4 +12,4 @@ invariant-loop-progress g l = let T = g.T.Theory in record {
 }
 
 abbrev pub decreases-loop-progress : goal.decreases-loop-progress
-decreases-loop-progress g l = work l.progress l.self.state
+decreases-loop-progress g l = l.restarts * (tree_size l.initial.self.state.vars + 2) + work l.progress l.self.state

@@ -4,7 +4,7 @@ use Rattle.std.proofs.lemmas.List.{take_at}
 use Rattle.sc_solver.specs.Assignment.{negated}
 use Rattle.sc_solver.specs.LearnerView.{LearnerView}
 use Rattle.sc_solver.specs.Marks.{ForcesMarked}
-use Rattle.sc_solver.specs.SearchView.{Lawful}
+use Rattle.sc_solver.specs.ContextView.{Lawful}
 use Rattle.sc_solver.proofs.learner.Learner.set.Goals as goal
 
 pub returns-clause-why : goal.returns-clause-why

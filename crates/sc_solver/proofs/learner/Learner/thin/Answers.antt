@@ -8,7 +8,7 @@ use Rattle.sc_solver.specs.Assignment.{value_at}
 use Rattle.sc_solver.specs.LearnerView.{LearnerView, IsExplained, IsThinnedAt}
 use Rattle.sc_solver.specs.Marks.{IsAsStrong}
 use Rattle.sc_solver.specs.Root.{AreImplied, oldest}
-use Rattle.sc_solver.specs.SearchView.{SearchView, Lawful}
+use Rattle.sc_solver.specs.ContextView.{ContextView, Lawful}
 use Rattle.sc_solver.proofs.Thinning.{IsThin-more, at_place}
 use Rattle.sc_solver.proofs.Trails.{All-reversed}
 use Rattle.sc_solver.proofs.learner.Learner.thin.Goals as goal
@@ -26,10 +26,10 @@ loop-place-preserved g c =
     let xs = reverse first.state.entries in
     let d : Entry = record { literal = record { var = 0; plus = false }; decided = false } in
     let state : before.state ≡ first.state = ap (λ (v : LearnerView _ _). v.state) known.kept in
-    let within : i < length xs = omega (arith, length-reverse first.state.entries, c.len-place-end.ensures, ap (λ (v : LearnerView _ _). length v.state.entries) c.self.view_is, c.loop-place-test.true) in
+    let within : i < length xs = omega (arith, length-reverse first.state.entries, c.len-place-end.ensures.len, ap (λ (v : LearnerView _ _). length v.state.entries) c.self.view_is, c.loop-place-test.true) in
     let thinned = at_place (λ e. IsThinnedAt before after.marks root e next_root) xs i d within
-    (subst (λ (s : SearchView _ _). IfSome (slice_get (reverse s.entries) i) (λ e. IsThinnedAt before after.marks root e next_root)) state c.thin_at-root.ensures.thinned) in
-    let strong = subst (λ (s : SearchView _ _). IsAsStrong (Lawful T.models T.meets s) s.entries after.marks before.marks) state c.thin_at-root.ensures.strong in
+    (subst (λ (s : ContextView _ _). IfSome (slice_get (reverse s.entries) i) (λ e. IsThinnedAt before after.marks root e next_root)) state c.thin_at-root.ensures.thinned) in
+    let strong = subst (λ (s : ContextView _ _). IsAsStrong (Lawful T.models T.meets s) s.entries after.marks before.marks) state c.thin_at-root.ensures.strong in
     let e = get_or xs i d in
     let here = subst (λ (v : LearnerView _ _). OnFalse e.decided (IsTrue (value_at after.marks e.literal.var) → ¬ IsExplained v after.marks e.literal)) known.kept thinned.thin in
     record {
@@ -37,7 +37,7 @@ loop-place-preserved g c =
       fewer = λ v m. known.fewer v (thinned.fewer v m);
       strong = λ a lawful agrees. known.strong a lawful (strong a lawful agrees);
       thin = IsThin-more first before.marks after.marks xs i d within thinned.fewer known.thin here;
-      root = subst (λ (s : SearchView _ _). OnTrue next_root (AreImplied (oldest (i + 1) s.entries))) state c.thin_at-root.ensures.root;
+      root = subst (λ (s : ContextView _ _). OnTrue next_root (AreImplied (oldest (i + 1) s.entries))) state c.thin_at-root.ensures.root;
     }
 
 pub returns-clause-thin : goal.returns-clause-thin
@@ -45,6 +45,6 @@ returns-clause-thin g c =
     let first = c.args.self.now in
     let marks = c.loop-place.self.marks in
     let xs = reverse first.state.entries in
-    let all : take c.loop-place.place xs ≡ xs = take_all c.loop-place.place xs (omega (arith, length-reverse first.state.entries, c.len-place-end.ensures, ap (λ (v : LearnerView _ _). length v.state.entries) c.self.view_is, c.loop-place-test.false)) in
+    let all : take c.loop-place.place xs ≡ xs = take_all c.loop-place.place xs (omega (arith, length-reverse first.state.entries, c.len-place-end.ensures.len, ap (λ (v : LearnerView _ _). length v.state.entries) c.self.view_is, c.loop-place-test.false)) in
     All-reversed (λ (e : Entry). OnFalse e.decided (IsTrue (value_at marks e.literal.var) → ¬ IsExplained first marks e.literal)) first.state.entries
     (rw all at c.loop-place.invariant.thin)

@@ -5,7 +5,7 @@ use Rattle.std.specs.Bool.{OnTrue}
 use Rattle.sc_solver.specs.LearnerView.{IsThin}
 use Rattle.sc_solver.specs.Marks.{HasMarks, IsAsStrong}
 use Rattle.sc_solver.specs.Root.{AreImplied, oldest}
-use Rattle.sc_solver.specs.SearchView.{Lawful}
+use Rattle.sc_solver.specs.ContextView.{Lawful}
 use Rattle.sc_solver.proofs.learner.Learner.thin.Given as goal
 
 abbrev pub invariant-loop-place : goal.invariant-loop-place

@@ -3,7 +3,7 @@ use Rattle.std.specs.List.{slice_get}
 use Rattle.std.specs.Option.{IfSome}
 use Rattle.sc_solver.specs.LearnerView.{LearnerView, IsThinnedAt}
 use Rattle.sc_solver.specs.Marks.{IsAsStrong}
-use Rattle.sc_solver.specs.SearchView.{Lawful}
+use Rattle.sc_solver.specs.ContextView.{Lawful}
 use Rattle.sc_solver.specs.Trail.{value_in}
 use Rattle.sc_solver.proofs.Roots.{IsAsStrong-without}
 use Rattle.sc_solver.proofs.Thinning.{thinned_explained}

@@ -1,8 +1,8 @@
 use Rattle.std.proofs.Common.{◌≡◌, ◌+◌, length, All}
-use Rattle.sc_theory.specs.Equality.{takes_literal}
-use Rattle.sc_theory.specs.Pair.{takes_own}
+use Rattle.sc_equality.specs.Equality.{takes_literal}
+use Rattle.sc_pair.specs.Pair.{takes_own}
 use Rattle.sc_order.specs.Difference.{is_literal}
-use Rattle.sc_solver.specs.SearchView.{IsTaken}
+use Rattle.sc_solver.specs.ContextView.{IsTaken}
 use Rattle.solver_bench.proofs.tests.mixed.atoms.Given as goal
 
 abbrev pub invariant-loop-difference : goal.invariant-loop-difference

@@ -1,8 +1,8 @@
 use Rattle.std.proofs.Common.{◌≡◌, ◌∙◌, All, ap, sym, subst}
-use Rattle.sc_theory.specs.Equality.{Equalities, takes_literal}
-use Rattle.sc_theory.specs.Pair.{PairState, takes_own}
+use Rattle.sc_equality.specs.Equality.{Equalities, takes_literal}
+use Rattle.sc_pair.specs.Pair.{PairState, takes_own}
 use Rattle.sc_order.specs.Difference.{Constraints, is_literal}
-use Rattle.sc_solver.specs.SearchView.{IsTaken}
+use Rattle.sc_solver.specs.ContextView.{IsTaken}
 use Rattle.solver_bench.proofs.tests.mixed.mixed_solver.Goals as goal
 
 pub new-requires-4-clause-taken : goal.new-requires-4-clause-taken

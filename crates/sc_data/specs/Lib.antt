@@ -1,0 +1,4 @@
+pub mod Database
+pub mod FieldsTyped
+pub mod Public
+pub mod Values

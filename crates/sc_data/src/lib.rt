@@ -1,0 +1,16 @@
+//! Databases over a schema.
+//!
+//! | module | holds |
+//! |---|---|
+//! | `principals` | `Principal`, a static principal or a record |
+//! | `laws` | a law on look-up |
+//!
+//! `specs/Values.antt` says what the values of a type are, and `specs/Database.antt` what a
+//! database is.
+#![tactic(auto)]
+
+mod laws;
+mod principals;
+
+pub use laws::fields_are_typed;
+pub use principals::Principal;

@@ -1,0 +1,14 @@
+pub mod ClashLemmas
+pub mod Classes
+pub mod EdgesLemmas
+pub mod PartitionLemmas
+pub mod PathLemmas
+pub mod SearchLemmas
+pub mod VisitsLemmas
+pub mod Members
+pub mod ClassModels
+pub mod EqualityState
+pub mod EqualitySteps
+pub mod EqualityAsserts
+pub mod EqualityUndo
+pub mod EqualityCore

@@ -1,0 +1,11 @@
+pub mod Visits
+pub mod Edges
+pub mod EdgeList
+pub mod Search
+pub mod Partition
+pub mod Equality
+pub mod Entries
+pub mod Clash
+pub mod EntryEnds
+pub mod EmptyClasses
+pub mod Public

@@ -1,0 +1,11 @@
+pub mod Agreement
+pub mod Changes
+pub mod Kept
+pub mod Meanings
+pub mod Members
+pub mod Policies
+pub mod Soundness
+pub mod Steps
+pub mod Tests
+pub mod TouchedCells
+pub mod WorkedValues

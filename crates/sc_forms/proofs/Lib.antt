@@ -1,0 +1,15 @@
+pub mod Agrees
+pub mod Apart
+pub mod Covers
+pub mod EachAgrees
+pub mod Ended
+pub mod EndedAgrees
+pub mod FormAgrees
+pub mod FormShapes
+pub mod GrammarFits
+pub mod LevelsAgree
+pub mod Lists
+pub mod Shapes
+pub mod Tables
+pub mod WholeLists
+pub mod GrammarAnswers

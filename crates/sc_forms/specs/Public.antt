@@ -1,0 +1,3 @@
+-- The words that the public laws speak in.
+pub use Rattle.sc_forms.specs.Reading.{Answer, Got, Stuck}
+pub use Rattle.sc_forms.specs.Answers.{answer, IsNotGrammar, IsOver, Means}

@@ -1,0 +1,33 @@
+//! What holds of the trees of any tokens.
+
+ghost use Rattle.std.specs.Prelude.{[], ℕ, List, ◌≡◌, ◌≤◌};
+ghost use Rattle.sc_ast.specs.Pieces.{Piece};
+ghost use Rattle.sc_tree.specs.Texts.{IsSpelled, IsSpelledAt};
+ghost use Rattle.sc_tree.specs.Grammar.{most_levels, spec_form, script_form};
+ghost use Rattle.sc_tree.specs.declared.models.Spec.{Spec};
+ghost use Rattle.sc_tree.specs.declared.commands.Script.{Script};
+ghost use Rattle.sc_forms.specs.Answers.{Means, answer};
+ghost use Rattle.sc_forms.specs.Reading.{Got};
+
+/// Tokens spell at most one specification and at most one script, however many items they have and
+/// however deep they nest.
+pub fn one_tree()
+    ensures spec { (n m : ℕ) (ls : List Piece) (s t : Spec) →
+        IsSpelledAt n spec_form s ls → IsSpelledAt m spec_form t ls → s ≡ t }
+    ensures script { (n m : ℕ) (ls : List Piece) (s t : Script) →
+        IsSpelledAt n script_form s ls → IsSpelledAt m script_form t ls → s ≡ t }
+{}
+
+/// The reader of a specification reads the tree that all of the tokens spell within the limits, and else it
+/// answers for the first cause at its place.
+pub fn spec_answers()
+    ensures tree { (x : Spec) (ls : List Piece) → IsSpelled spec_form x ls → answer spec_form ls ≡ Got x [] }
+    ensures means { (m : ℕ) → most_levels ≤ m → (ls : List Piece) → Means m spec_form ls (answer spec_form ls) }
+{}
+
+/// The reader of a script reads the tree that all of the tokens spell within the limits, and else it
+/// answers for the first cause at its place.
+pub fn script_answers()
+    ensures tree { (x : Script) (ls : List Piece) → IsSpelled script_form x ls → answer script_form ls ≡ Got x [] }
+    ensures means { (m : ℕ) → most_levels ≤ m → (ls : List Piece) → Means m script_form ls (answer script_form ls) }
+{}

@@ -1,0 +1,8 @@
+pub mod FormLemmas
+pub mod MarkLemmas
+pub mod MoveLemmas
+pub mod NormalForms
+pub mod Placement
+pub mod Sharing
+pub mod TermLemmas
+pub mod TreeLemmas

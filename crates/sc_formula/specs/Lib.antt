@@ -1,0 +1,12 @@
+pub mod Added
+pub mod Evaluation
+pub mod Forms
+pub mod Marks
+pub mod Nodes
+pub mod NormalForm
+pub mod Over
+pub mod Public
+pub mod Signature
+pub mod Trees
+pub mod Truth
+pub mod Values

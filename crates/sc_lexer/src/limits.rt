@@ -1,0 +1,10 @@
+//! The limits of one token.
+
+/// The bytes of the longest word.
+pub const MOST_NAME_BYTES: usize = 64;
+
+/// The most bytes that a literal stands for.
+pub const MOST_TEXT_BYTES: usize = 4096;
+
+/// The largest number, 2^63: with a sign before it, it is the least integer of 64 bits.
+pub const LARGEST_NUMBER: u64 = 9_223_372_036_854_775_808;

@@ -1,0 +1,3 @@
+pub mod Sides
+pub mod PairModels
+pub mod PairState

@@ -1,0 +1,4 @@
+pub mod Pair
+pub mod PairSides
+pub mod PairLaw
+pub mod Public

@@ -1,0 +1,43 @@
+-- The spellings of a list, as a loop writes them.
+use Rattle.std.proofs.Common.{zero, suc, ◌≡◌, ◌<◌, ◌≤◌, ℕ, ◌+◌, List, [], ◌∷◌, ◌++◌, map, length, drop, get_or, refl, sym, ◌∙◌, ap, subst, arith, append_assoc, append-nil, drop-cons, add-one}
+use Rattle.sc_lexer.specs.declared.token.TokenKind.TheVariants as k
+use Rattle.sc_print.specs.Exprs.{commas, joined}
+use Rattle.sc_print.specs.Marks.{Mark, sign, sp, text_of_marks}
+use Rattle.sc_print.proofs.Joined.{text-append}
+
+-- So far `out` is written, and with what is left after `before` it will be `whole`.
+pub record IsWriting {A : Type 0} (f : A → List Mark) (left : List A) (before out whole : List ℕ) : Type 0 where
+  pub marks : List Mark
+  pub before_is : before ≡ text_of_marks marks
+  pub goes_on : out ++ text_of_marks (joined marks (map f left)) ≡ whole
+
+pub commas_begin : {A : Type 0} (f : A → List Mark) (xs : List A) (out : List ℕ) → IsWriting f xs [] out (out ++ text_of_marks (commas (map f xs)))
+commas_begin f xs out = record { marks = []; before_is = refl; goes_on = refl }
+
+pub commas_more : {A : Type 0} (f : A → List Mark) (x : A) (left : List A) (before out whole : List ℕ) → IsWriting f (x ∷ left) before out whole → IsWriting f left (text_of_marks (sign k.Comma ∷ sp ∷ [])) ((out ++ before) ++ text_of_marks (f x)) whole
+commas_more f x left before out whole w =
+    let b = text_of_marks w.marks in
+    let rest = joined (sign k.Comma ∷ sp ∷ []) (map f left) in
+    let parts : text_of_marks (w.marks ++ (f x ++ rest)) ≡ b ++ (text_of_marks (f x) ++ text_of_marks rest) = simp text-append in
+    record {
+      marks = sign k.Comma ∷ sp ∷ [];
+      before_is = refl;
+      goes_on = ap (λ z. ((out ++ z) ++ text_of_marks (f x)) ++ text_of_marks rest) w.before_is ∙ (simp append_assoc) ∙ ap (λ z. out ++ z) (sym parts) ∙ w.goes_on;
+    }
+
+pub commas_end : {A : Type 0} (f : A → List Mark) (before out whole : List ℕ) → IsWriting f [] before out whole → out ≡ whole
+commas_end f before out whole w = sym (append-nil out) ∙ w.goes_on
+
+pub commas_done : {A : Type 0} (f : A → List Mark) (xs : List A) (i : ℕ) (before out whole : List ℕ) → length xs ≤ i → IsWriting f (drop i xs) before out whole → out ≡ whole
+commas_done f [] zero before out whole over w = commas_end f before out whole w
+commas_done f [] (suc i) before out whole over w = commas_end f before out whole w
+commas_done f (x ∷ xs) zero before out whole over w = absurd (omega arith)
+commas_done f (x ∷ xs) (suc i) before out whole over w = commas_done f xs i before out whole (omega arith) w
+
+pub commas_step : {A : Type 0} (f : A → List Mark) (xs : List A) (i : ℕ) (x : A) (before out whole : List ℕ) → i < length xs → x ≡ get_or xs i x → IsWriting f (drop i xs) before out whole → IsWriting f (drop (i + 1) xs) (text_of_marks (sign k.Comma ∷ sp ∷ [])) ((out ++ before) ++ text_of_marks (f x)) whole
+commas_step f [] i x before out whole within is w = absurd (omega arith)
+commas_step f (y ∷ xs) zero x before out whole within is w =
+    subst (λ z. IsWriting f xs (text_of_marks (sign k.Comma ∷ sp ∷ [])) ((out ++ before) ++ text_of_marks (f z)) whole) (sym is) (commas_more f y xs before out whole w)
+commas_step f (y ∷ xs) (suc i) x before out whole within is w =
+    let same : suc (i + 1) ≡ suc i + 1 = omega arith in
+    subst (λ n. IsWriting f (drop n (y ∷ xs)) (text_of_marks (sign k.Comma ∷ sp ∷ [])) ((out ++ before) ++ text_of_marks (f x)) whole) same (commas_step f xs i x before out whole (omega arith) is w)

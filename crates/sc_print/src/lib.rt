@@ -1,0 +1,14 @@
+//! The canonical spelling of specifications, scripts and policies.
+//!
+//! | module | holds |
+//! |---|---|
+//! | `out` | `Out`, a text that grows |
+//! | `exprs` | the spelling of expressions and sets |
+//!
+//! `specs/` says how each tree is spelled: as lexemes and the blanks between them.
+#![tactic(auto)]
+
+mod exprs;
+mod out;
+
+pub use out::Out;

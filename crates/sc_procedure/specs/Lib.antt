@@ -1,0 +1,3 @@
+pub mod LitBuf
+pub mod Models
+pub mod Public

@@ -1,0 +1,31 @@
+-- What comes of a file: it is fetched, and then it is read.
+use Rattle.std.specs.Prelude.{◌≡◌, ◌<◌, ◌≤◌, ℕ, List, length, ⊤, Option, Some, None, IfSome, IsSomeAnd, Ok, Err}
+use Rattle.sc_flow.specs.Files.{Files}
+use Rattle.sc_run.specs.declared.limits.TheConstants.{MOST_FILE_BYTES}
+use Rattle.sc_run.specs.declared.refusal.Refusal.{Refusal}
+use Rattle.sc_run.specs.declared.refusal.Refusal.TheVariants.{Usage, Missing, TooLong, Unread, NotBuilt}
+use Rattle.sc_run.specs.declared.stop.Stop.TheVariants.{Refused, ReadFault, OutOfMemory}
+use Rattle.sc_run.specs.Stages.{Stage, Then, Judges}
+
+-- Why the shelf does not give a file: it has none of that name, or the file is above the limit.
+abbrev pub IsNotGiven : Option Files → List ℕ → Refusal → Type 0
+IsNotGiven told name (Missing n) = (n ≡ name) × IfSome told (λ files. files name ≡ None)
+IsNotGiven told name (TooLong n) = (n ≡ name) × IfSome told (λ files. IsSomeAnd (files name) (λ text. MOST_FILE_BYTES < length text))
+IsNotGiven told name Usage = ⊥
+IsNotGiven told name (Unread n) = ⊥
+IsNotGiven told name NotBuilt = ⊥
+
+-- The shelf gives the file of that name. Where it tells its files, it is that file.
+abbrev pub Fetches : Option Files → List ℕ → Stage (List ℕ)
+Fetches told name (Ok text) = (length text ≤ MOST_FILE_BYTES) × IfSome told (λ files. files name ≡ Some text)
+Fetches told name (Err (Refused refusal)) = IsNotGiven told name refusal
+Fetches told name (Err ReadFault) = ⊤
+Fetches told name (Err OutOfMemory) = ⊤
+
+-- The text is read as the tree that it spells; it is refused where it spells none.
+abbrev pub Reads : {T : Type 0} → (List ℕ → T → Type 0) → List ℕ → List ℕ → Stage T
+Reads {T} Spells name text = Judges (λ refusal. (refusal ≡ Unread name) × ((x : T) → ¬ (Spells text x))) (Spells text)
+
+-- The file of that name is loaded.
+abbrev pub Loads : {T : Type 0} → (List ℕ → T → Type 0) → Option Files → List ℕ → Stage T
+Loads Spells told name = Then (Fetches told name) (Reads Spells name)

@@ -1,0 +1,21 @@
+-- Stages, one after another: the first that stops decides, else what the last one passes on.
+use Rattle.std.specs.Prelude.{◌≡◌, ⊤, Result, Ok, Err}
+use Rattle.sc_run.specs.declared.refusal.Refusal.{Refusal}
+use Rattle.sc_run.specs.declared.stop.Stop.{Stop}
+use Rattle.sc_run.specs.declared.stop.Stop.TheVariants.{Refused, ReadFault, OutOfMemory}
+
+-- what a stage may come to: the value that it passes on, or why nothing goes on
+abbrev pub Stage : Type 0 → Type 1
+Stage A = Result A Stop → Type 0
+
+-- The first stage stops, or it passes a value on and the second goes on from there.
+pub data Then {A B : Type 0} (first : Stage A) (second : A → Stage B) (end : Result B Stop) : Type 0 where
+  Stops : (stop : Stop) → first (Err stop) → end ≡ Err stop → Then first second end
+  Goes : (x : A) → first (Ok x) → second x end → Then first second end
+
+-- A stage that asks nothing of the outside: it refuses for such a reason, or passes such a value on.
+abbrev pub Judges : {A : Type 0} → (Refusal → Type 0) → (A → Type 0) → Stage A
+Judges refuses passes (Ok x) = passes x
+Judges refuses passes (Err (Refused refusal)) = refuses refusal
+Judges refuses passes (Err ReadFault) = ⊥
+Judges refuses passes (Err OutOfMemory) = ⊤

@@ -1,0 +1,54 @@
+//! The program as one call.
+
+ghost use Rattle.std.specs.Prelude.{◌≡◌, ◌≢◌, None};
+ghost use Rattle.sc_flow.specs.Outside.{IsRead, IsWritten};
+ghost use Rattle.sc_run.specs.Ends.{Ends, IsOfUsage, IsPut, IsSilent};
+ghost use Rattle.sc_run.specs.Words.{command_of};
+
+use crate::answer::Answer;
+use crate::check::answer_to;
+use crate::report::report_of;
+use crate::status::Status;
+use crate::stop::Stop;
+use sc_ast::Txt;
+use sc_flow::{Shelf, Sink, put_all};
+use std::alloc::Global;
+
+/// Puts the report of the answer into `out`.
+fn put_answer<W: Sink>(alloc: Global, answer: &Answer, out: &mut W) -> Status
+    ensures put { IsPut answer.now (W.told out.old) (W.told out.new) result }
+    ensures out { IsWritten W.faults out.old out.new (IsSilent result) (result
+        ≡ Status.WriteFault) }
+    ensures not_read { result ≢ Status.ReadFault }
+{
+    let Ok(report) = report_of(alloc, answer) else {
+        return Status::OutOfMemory;
+    };
+    match put_all(out, report.as_slice()) {
+        Ok(()) => answer.status(),
+        Err(_) => Status::WriteFault,
+    }
+}
+
+/// Checks the script of the words against the specification of the words, and writes what it
+/// finds: that no command gains anybody a right on any database of any size, or a witness of the
+/// first obligation that fails.
+///
+/// The words are those after the program's name. The files are taken from `shelf`, the report is
+/// put into `out`, and `Status` says what each status means.
+pub fn run<F: Shelf, W: Sink>(alloc: Global, words: &[Txt], shelf: &mut F, out: &mut W) -> Status
+    ensures ends { Ends (F.told shelf.old) words.now (W.told out.old) (W.told out.new) result }
+
+    // The shelf is read and the output is written; where the words are no command, nothing is read.
+    ensures shelf { IsRead F.told F.faults shelf.old shelf.new (result ≡ Status.ReadFault) }
+    ensures out { IsWritten W.faults out.old out.new (IsSilent result) (result
+        ≡ Status.WriteFault) }
+    ensures usage { command_of words.now ≡ None → IsOfUsage result × (shelf.new ≡ shelf.old) }
+{
+    match answer_to(alloc, words, shelf) {
+        Ok(checked) => put_answer(alloc, &Answer::Checked(checked), out),
+        Err(Stop::Refused(refusal)) => put_answer(alloc, &Answer::Refused(refusal), out),
+        Err(Stop::ReadFault) => Status::ReadFault,
+        Err(Stop::OutOfMemory) => Status::OutOfMemory,
+    }
+}

@@ -1,0 +1,24 @@
+//! Why the words are refused.
+
+use sc_ast::Txt;
+use thiserror::Error;
+
+/// Why the words get no outcome, with the name of the file where it is about one.
+#[derive(Debug, Drop, Error)]
+pub enum Refusal {
+    /// The words are no command.
+    #[error("the words are no command")]
+    Usage,
+    /// There is no file of the name.
+    #[error("a file is missing")]
+    Missing(Txt),
+    /// The file is above the limit.
+    #[error("a file is too long")]
+    TooLong(Txt),
+    /// The text of the file spells nothing that can be read by what is built.
+    #[error("a file cannot be read yet")]
+    Unread(Txt),
+    /// The two files cannot be decided by what is built.
+    #[error("the files cannot be decided yet")]
+    NotBuilt,
+}

@@ -1,0 +1,11 @@
+pub mod Commands
+pub mod Kinds
+pub mod Proper
+pub mod Public
+pub mod Schema
+pub mod SchemaViews
+pub mod Script
+pub mod Trees
+pub mod Typing
+pub mod Uses
+pub mod Views

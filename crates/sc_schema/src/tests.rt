@@ -1,0 +1,41 @@
+use crate::{FieldInfo, ModelInfo, TBase, TPolicy, TTy};
+use sc_ast::Name;
+use sqlite_items::Items;
+use std::alloc::Global;
+use std::rc::Rc;
+use std::test::Fail;
+
+fn name(alloc: Global, bytes: &[u8]) -> Result<Option<Name>, Fail> {
+    Ok(Name::make(Vec::from_slice(alloc, bytes)?))
+}
+
+#[test]
+fn a_schema_is_copied(rt: HostRuntime) -> Result<(), Fail> {
+    let alloc = rt.alloc();
+    let (Some(note), Some(body)) = (name(alloc, b"Note")?, name(alloc, b"body")?) else {
+        return Ok(());
+    };
+    let field = FieldInfo {
+        number: 3,
+        name: body,
+        ty: TTy::Plain(TBase::Text),
+        read: Rc::new(alloc, TPolicy::Everyone)?,
+        write: Rc::new(alloc, TPolicy::Nobody)?,
+    };
+    let mut fields = Items::new(alloc);
+    fields.push(field)?;
+    let model = ModelInfo {
+        number: 2,
+        name: note,
+        principal: true,
+        create: Rc::new(alloc, TPolicy::Everyone)?,
+        delete: Rc::new(alloc, TPolicy::Nobody)?,
+        fields,
+    };
+    let copy = model.copy(alloc)?;
+    let wanted: &[u8] = b"Note";
+    assert_eq!(rt; copy.name.bytes(), wanted);
+    assert_eq!(rt; copy.fields.len(), 1);
+    assert!(rt; copy.principal);
+    Ok(())
+}

@@ -1,0 +1,12 @@
+use Rattle.std.proofs.Common.{◌∙◌}
+use Rattle.sc_solver.specs.declared.progress.Progress.TheVariants.{Open}
+use Rattle.sc_solver.specs.Steps.{work}
+use Rattle.sc_solver.proofs.WorkLeft.{restart_less}
+use Rattle.sc_solver.proofs.learner.Learner.run.Goals as goal
+
+pub loop-progress-smaller-then-is_due : goal.loop-progress-smaller-then-is_due
+loop-progress-smaller-then-is_due g c =
+    let vars = c.pop_decisions.ensures.problem.vars ∙ c.loop-progress.invariant.problem.vars in
+    let before = work Open c.loop-progress.self.state in
+    rw (c.in-Open.is, vars)
+    (restart_less c.args.self.now.state.vars c.loop-progress.restarts c.take.new.self before c.pop_decisions.new.self.state.entries c.take.ensures (rw vars at c.pop_decisions.ensures.few))

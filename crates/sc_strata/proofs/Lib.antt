@@ -1,0 +1,5 @@
+pub mod Cycles
+pub mod EdgeLemmas
+pub mod EdgesBelow
+pub mod OrderLemmas
+pub mod TermEdgeLemmas

@@ -1,0 +1,17 @@
+//! The sort graph of a formula: an order of the sorts along which every edge goes, or a cycle.
+//!
+//! - `term_edges`: those of terms.
+//! - `edges`: the edges of the graph, from a walk over the formula.
+//! - `order`: an order or a cycle of a graph.
+//! - `sort_graph`: both together.
+//! - `answer`: `Strata`, what is found.
+#![tactic(auto)]
+
+mod answer;
+mod edges;
+mod order;
+mod sort_graph;
+mod term_edges;
+
+pub use answer::Strata;
+pub use sort_graph::strata;

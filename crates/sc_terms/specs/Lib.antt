@@ -1,0 +1,13 @@
+pub mod Counts
+pub mod Cut
+pub mod Examples
+pub mod GroundTerms
+pub mod Limits
+pub mod Listing
+pub mod Parts
+pub mod Passing
+pub mod Public
+pub mod Reading
+pub mod Satisfying
+pub mod Structures
+pub mod Universe

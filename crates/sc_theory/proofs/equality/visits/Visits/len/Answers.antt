@@ -1,8 +1,0 @@
-use Rattle.std.proofs.Common.{arith}
-use Rattle.sc_theory.proofs.Visits.{length-le_visits}
-use Rattle.sc_theory.proofs.equality.visits.Visits.len.Goals as goal
-
-pub returns-clause-bound : goal.returns-clause-bound
-returns-clause-bound c =
-    let inside = c.self.inside in
-    rw (← c.self.view_is) (omega (arith, inside.list.ok.0, length-le_visits inside.list.items inside.seen.items _ c.self.invariant))

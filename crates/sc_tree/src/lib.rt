@@ -1,0 +1,26 @@
+//! The trees of the whole language, and how tokens spell them.
+//!
+//! | module | holds |
+//! |---|---|
+//! | `named` | `Named`, a name at its place; `Reason`, a reason at its own |
+//! | `exprs` | `Expr` and `SetExpr`, with the items of lists and the filters of `Find` |
+//! | `policies` | `Policy`, and `Init`, what a new field holds at first |
+//! | `models` | `Spec` with its models, fields and types |
+//! | `commands` | `Script` with its commands |
+//!
+//! Contracts see a tree as plain data: a list as its items, a name as its bytes. Each tree keeps
+//! the byte offset of its first token, and each name its own. `specs/Grammar.antt` says which tokens
+//! spell a tree.
+#![tactic(auto)]
+
+mod commands;
+mod exprs;
+mod models;
+mod named;
+mod policies;
+
+pub use commands::{Command, Script};
+pub use exprs::{CmpOp, Expr, Filter, FilterOp, Item, SetExpr};
+pub use models::{Base, FieldDef, ModelDef, Spec, Ty};
+pub use named::{Named, Reason};
+pub use policies::{Init, Policy};

@@ -1,0 +1,49 @@
+//! Every command that README.md shows, run over the files of `examples/`, and in `tests` the rows
+//! that cross crates: `run` over objects in memory.
+#![tactic(auto)]
+
+#[cfg(test)]
+mod tests;
+
+use sc_ast::Txt;
+use sc_flow::{CurrentFolder, DirShelf, StdSink};
+use sc_run::run;
+use std::alloc::{AllocError, Global};
+use std::io;
+
+/// The words of the commands, in the order in which README.md shows them.
+const COMMANDS: [&[&str]; 6] = [
+    &["check", "notes.spec", "robots.scm"],
+    &["check", "notes.spec", "readers.scm"],
+    &["check", "clinic.spec", "billing.scm"],
+    &["check", "clinic.spec", "billing-mended.scm"],
+    &["check", "clinic.spec", "unbuilt.scm"],
+    &["check", "clinic.spec"],
+];
+
+fn words_of(alloc: Global, texts: &[&str]) -> Result<Vec<Txt>, AllocError> {
+    let mut words = Vec::new(alloc);
+    for text in texts {
+        if let Some(word) = Txt::make(Vec::from_slice(alloc, text.as_bytes())?) {
+            words.push(word).map_err(AllocError::from)?;
+        }
+    }
+    Ok(words)
+}
+
+fn main(rt: HostRuntime) -> io::Result<()> {
+    let alloc = rt.alloc();
+    for command in COMMANDS {
+        print!(rt; "$ scooter")?;
+        for word in command {
+            print!(rt; " {word}")?;
+        }
+        println!(rt)?;
+        let words = words_of(alloc, command)?;
+        let mut shelf = DirShelf::new(CurrentFolder(&rt));
+        let mut out = StdSink::new(io::writer(&rt));
+        let status = run(alloc, words.as_slice(), &mut shelf, &mut out);
+        println!(rt; "status {}", status.code())?;
+    }
+    Ok(())
+}

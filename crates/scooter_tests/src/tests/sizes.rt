@@ -1,0 +1,186 @@
+//! Pairs of many sizes, up to the limits of the language, with ample memory.
+
+use crate::tests::{Ended, File, run_over};
+use sc_run::{MOST_FILE_BYTES, Status};
+use std::alloc::{AllocError, Global};
+use std::test::Fail;
+
+/// How many statics, models, fields of a model and commands there are.
+#[derive(Clone, Copy)]
+struct Sizes {
+    statics: u8,
+    models: u8,
+    fields: u8,
+    commands: u16,
+}
+
+impl Sizes {
+    fn new(statics: u8, models: u8, fields: u8, commands: u16) -> Sizes {
+        Sizes {
+            statics,
+            models,
+            fields,
+            commands,
+        }
+    }
+}
+
+fn push_number(alloc: Global, text: &mut Vec<u8>, number: u16) -> Result<(), AllocError> {
+    let digits = number.to_string(alloc)?;
+    text.extend_from_slice(digits.as_bytes())
+}
+
+/// `A` to `Z`, and then `Ab` to `Zb` and so on.
+fn push_static(text: &mut Vec<u8>, number: u8) -> Result<(), AllocError> {
+    text.extend_from_slice(&[b'A' + number % 26])?;
+    if number >= 26 {
+        text.extend_from_slice(&[b'a' + number / 26])?;
+    }
+    Ok(())
+}
+
+/// The policy that lists all statics.
+fn everyone(alloc: Global, statics: u8) -> Result<Vec<u8>, AllocError> {
+    let mut text = Vec::new(alloc);
+    text.extend_from_slice(b"x->[")?;
+    for number in 0..statics {
+        if number > 0 {
+            text.extend_from_slice(b",")?;
+        }
+        push_static(&mut text, number)?;
+    }
+    text.extend_from_slice(b"]")?;
+    Ok(text)
+}
+
+/// A model whose fields all may read and nobody may write.
+fn push_model(
+    alloc: Global,
+    text: &mut Vec<u8>,
+    model: u8,
+    fields: u8,
+    read: &[u8],
+) -> Result<(), AllocError> {
+    text.extend_from_slice(b"model M")?;
+    push_number(alloc, text, u16::from(model))?;
+    text.extend_from_slice(b"{create:none,delete:none")?;
+    for field in 0..fields {
+        text.extend_from_slice(b",f")?;
+        push_number(alloc, text, u16::from(field))?;
+        text.extend_from_slice(b":Int{read:")?;
+        text.extend_from_slice(read)?;
+        text.extend_from_slice(b",write:none}")?;
+    }
+    text.extend_from_slice(b"}")
+}
+
+fn specification(alloc: Global, sizes: Sizes, read: &[u8]) -> Result<Vec<u8>, AllocError> {
+    let mut text = Vec::new(alloc);
+    for number in 0..sizes.statics {
+        text.extend_from_slice(b"static ")?;
+        push_static(&mut text, number)?;
+        text.extend_from_slice(b"\n")?;
+    }
+    for model in 0..sizes.models {
+        push_model(alloc, &mut text, model, sizes.fields, read)?;
+    }
+    Ok(text)
+}
+
+/// The head of a command on field 0 of model 0, with a read policy.
+fn push_command(text: &mut Vec<u8>, read: &[u8]) -> Result<(), AllocError> {
+    text.extend_from_slice(b"M0::UpdateFieldPolicy(f0,{read:")?;
+    text.extend_from_slice(read)
+}
+
+/// The commands keep both policies; after them one that lets the last static write.
+fn scripts(alloc: Global, sizes: Sizes, read: &[u8]) -> Result<(Vec<u8>, Vec<u8>), AllocError> {
+    let mut kept = Vec::new(alloc);
+    for _ in 1..sizes.commands {
+        push_command(&mut kept, read)?;
+        kept.extend_from_slice(b",write:none})")?;
+    }
+    let mut loosened = Vec::from_slice(alloc, kept.as_slice())?;
+    push_command(&mut kept, read)?;
+    kept.extend_from_slice(b",write:none})")?;
+    push_command(&mut loosened, read)?;
+    loosened.extend_from_slice(b",write:x->[")?;
+    push_static(&mut loosened, sizes.statics.saturating_sub(1))?;
+    loosened.extend_from_slice(b"]})")?;
+    Ok((kept, loosened))
+}
+
+/// The first lines of the report on the loosened script.
+fn leak(alloc: Global, sizes: Sizes) -> Result<Vec<u8>, AllocError> {
+    let mut text = Vec::new(alloc);
+    text.extend_from_slice(b"leak command ")?;
+    push_number(alloc, &mut text, sizes.commands)?;
+    text.extend_from_slice(b" field M0.f0 right write\nrow M0 @1\nprincipal ")?;
+    push_static(&mut text, sizes.statics.saturating_sub(1))?;
+    text.extend_from_slice(b"\ndatabase\nM0 @2 {\n  @1 {f0: 0")?;
+    Ok(text)
+}
+
+fn check(alloc: Global, spec: &[u8], script: &[u8]) -> Result<Ended, Fail> {
+    let files = [
+        File {
+            name: "s.spec",
+            text: spec,
+        },
+        File {
+            name: "s.scm",
+            text: script,
+        },
+    ];
+    run_over(alloc, &["check", "s.spec", "s.scm"], &files)
+}
+
+/// Whether the script that keeps the policies is accepted with this report, and the other leaks.
+fn answers_so(alloc: Global, sizes: Sizes, accepted: &[u8]) -> Result<bool, Fail> {
+    let read = everyone(alloc, sizes.statics)?;
+    let spec = specification(alloc, sizes, read.as_slice())?;
+    let (kept, loosened) = scripts(alloc, sizes, read.as_slice())?;
+    let first = check(alloc, spec.as_slice(), kept.as_slice())?;
+    let second = check(alloc, spec.as_slice(), loosened.as_slice())?;
+    let front = leak(alloc, sizes)?;
+    Ok(
+        first.status == Status::Done
+            && first.output.as_slice() == accepted
+            && second.status == Status::Leak
+            && second.output.as_slice().starts_with(front.as_slice())
+            && second.output.as_slice().ends_with(b"end\n"),
+    )
+}
+
+#[test]
+fn pairs_of_all_sizes(rt: HostRuntime) -> Result<(), Fail> {
+    let rows = [
+        (
+            Sizes::new(1, 1, 1, 1),
+            b"accepted obligations 2\n".as_slice(),
+        ),
+        (Sizes::new(4, 1, 1, 1), b"accepted obligations 8\n"),
+        (Sizes::new(9, 3, 2, 5), b"accepted obligations 90\n"),
+        (Sizes::new(27, 8, 16, 40), b"accepted obligations 2160\n"),
+        (Sizes::new(64, 64, 64, 256), b"accepted obligations 32768\n"),
+    ];
+    for (sizes, accepted) in rows {
+        assert!(rt; answers_so(rt.alloc(), sizes, accepted)?);
+    }
+    Ok(())
+}
+
+#[test]
+fn files_at_the_limit(rt: HostRuntime) -> Result<(), Fail> {
+    let alloc = rt.alloc();
+    let mut blanks = vec![in alloc; b' '; MOST_FILE_BYTES]?;
+    let ended = check(alloc, blanks.as_slice(), b"")?;
+    assert_eq!(rt; ended.status, Status::Done);
+    assert!(rt; ended.output.as_slice() == b"accepted obligations 0\n".as_slice());
+    blanks.push(b' ').map_err(AllocError::from)?;
+    let ended = check(alloc, blanks.as_slice(), b"")?;
+    assert_eq!(rt; ended.status, Status::TooLong);
+    assert!(rt; ended.output.as_slice() == b"too long s.spec\n".as_slice());
+    assert_eq!(rt; ended.fetches, 1);
+    Ok(())
+}
