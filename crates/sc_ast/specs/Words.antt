@@ -2,6 +2,7 @@
 use Rattle.std.specs.Prelude.{ℕ, ◌≤◌, Bool, false, ◌||◌, ◌&&◌, nat_le, ◌==◌, IsTrue, List, [], ◌∷◌, length, codes}
 use Rattle.std.specs.List.{list_all, list_any}
 use Rattle.std.specs.Str.{IsUtf8, bytes_eq}
+use Rattle.sc_lexer.specs.declared.limits.TheConstants.{MOST_NAME_BYTES, MOST_TEXT_BYTES}
 
 -- an ASCII letter
 abbrev pub is_letter : ℕ → Bool
@@ -17,7 +18,7 @@ begins_with_letter (b ∷ bs) = is_letter b
 
 -- 1 to 64 letters, digits and underscores, the first a letter
 abbrev pub is_name : List ℕ → Bool
-is_name bytes = begins_with_letter bytes && list_all is_name_byte bytes && nat_le (length bytes) 64
+is_name bytes = begins_with_letter bytes && list_all is_name_byte bytes && nat_le (length bytes) MOST_NAME_BYTES
 
 abbrev pub IsName : List ℕ → Type 0
 IsName bytes = IsTrue (is_name bytes)
@@ -25,7 +26,7 @@ IsName bytes = IsTrue (is_name bytes)
 -- UTF-8 of at most 4,096 bytes
 pub record IsText (bytes : List ℕ) : Type 0 where
   pub utf8 : IsUtf8 bytes
-  pub short : length bytes ≤ 4096
+  pub short : length bytes ≤ MOST_TEXT_BYTES
 
 -- the words that the grammar keeps for itself
 abbrev pub reserved_lower : List (List ℕ)

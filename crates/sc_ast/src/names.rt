@@ -5,11 +5,9 @@ ghost use Rattle.std.specs.List.{list_all};
 ghost use Rattle.std.specs.Option.{SomeIff};
 ghost use Rattle.sc_ast.specs.Words.{is_letter, is_name_byte, begins_with_letter, is_name, IsName};
 
+use sc_lexer::limits::MOST_NAME_BYTES;
 use std::alloc::{AllocError, Global};
 use std::marker::Model;
-
-/// How many bytes a name has at most.
-const MOST_BYTES: usize = 64;
 
 /// The name of a static, a model, a field or a variable: 1 to 64 ASCII letters, digits and `_`,
 /// the first of them a letter. Contracts see its bytes.
@@ -89,5 +87,5 @@ fn are_name_bytes(bytes: &[u8]) -> bool
 fn is_name(bytes: &[u8]) -> bool
     ensures { result ≡ is_name bytes.now }
 {
-    begins_with_letter(bytes) && are_name_bytes(bytes) && bytes.len() <= MOST_BYTES
+    begins_with_letter(bytes) && are_name_bytes(bytes) && bytes.len() <= MOST_NAME_BYTES
 }

@@ -8,12 +8,10 @@ ghost use Rattle.std.specs.Option.{SomeIff};
 ghost use Rattle.std.proofs.Common.{rules};
 ghost use Rattle.sc_ast.specs.Words.{IsText};
 
+use sc_lexer::limits::MOST_TEXT_BYTES;
 use std::alloc::{AllocError, Global};
 use std::hash::{Hash, Hasher};
 use std::marker::Model;
-
-/// How many bytes a text has at most.
-const MOST_BYTES: usize = 4096;
 
 /// A text: UTF-8 of at most 4,096 bytes. Contracts see its bytes.
 #[derive(Debug, Drop)]
@@ -38,7 +36,7 @@ impl Txt {
     pub fn make(bytes: Vec<u8>) -> Option<Txt>
         ensures { SomeIff result (IsText bytes.items) bytes.items }
     {
-        if bytes.len() > MOST_BYTES {
+        if bytes.len() > MOST_TEXT_BYTES {
             return None;
         }
         match str::from_utf8(bytes.as_slice()) {
