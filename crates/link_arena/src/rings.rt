@@ -1,5 +1,6 @@
 //! Lists of nodes.
-ghost use Rattle.std.specs.Prelude.{◌≡◌, ◌<◌, ◌^◌, [], true, false, length, replicate, IfOk, IfSome, Some, None, nat_lt, if◌then◌else◌};
+ghost use Rattle.std.specs.Prelude.{◌≡◌, ◌<◌, ◌^◌, [], true, false, length, replicate, IfOk};
+ghost use Rattle.std.specs.Prelude.{IfSome, Some, None, nat_lt, if◌then◌else◌};
 ghost use Rattle.std.specs.List.{slice_get};
 ghost use Rattle.link_arena.specs.Lists.{EachOnce, list_at, is_linked, pushed, unlinked, next_of};
 
@@ -27,11 +28,13 @@ impl Model for Rings {
 }
 
 impl Rings {
-    /// Empty lists, as many as `lists`, for nodes below `nodes`. Takes all the memory there will be.
+    /// Empty lists, as many as `lists`, for nodes below `nodes`. Takes all the memory there will
+    /// be.
     pub fn new(alloc: Global, lists: usize, nodes: usize) -> Result<Rings, AllocError>
         requires lists_fit { lists < 2 ^ 32 }
         requires nodes_fit { nodes < 2 ^ 32 }
-        ensures { IfOk result (λ rings. rings ≡ record { nodes = nodes; lists = replicate lists [] }) }
+        ensures { IfOk result (λ rings. rings
+            ≡ record { nodes = nodes; lists = replicate lists [] }) }
     {
         Ok(Rings {
             nodes,
@@ -109,7 +112,8 @@ impl Rings {
         requires list_in { list < length self.old.lists }
         requires node_in { node < self.old.nodes }
         requires linked { is_linked node self.old.lists ≡ true }
-        ensures { self.new ≡ record self.old { lists = pushed list node (unlinked node self.old.lists) } }
+        ensures { self.new
+            ≡ record self.old { lists = pushed list node (unlinked node self.old.lists) } }
     {
         self.unlink(node);
         self.push_back(list, node);

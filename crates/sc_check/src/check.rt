@@ -1,6 +1,7 @@
 //! The check of a script, obligation by obligation.
 
-ghost use Rattle.std.specs.Prelude.{◌≡◌, ◌+◌, ◌<◌, ◌≤◌, length, fold, IfOk, Some, option_map, count_by, sum_by, is_some, [], ◌∷◌};
+ghost use Rattle.std.specs.Prelude.{◌≡◌, ◌+◌, ◌<◌, ◌≤◌, length, fold, IfOk, Some, option_map};
+ghost use Rattle.std.specs.Prelude.{count_by, sum_by, is_some, [], ◌∷◌};
 ghost use Rattle.std.specs.List.{find};
 ghost use Rattle.std.specs.Option.{option_copied};
 ghost use Rattle.sc_check.specs.Access as access;
@@ -62,7 +63,8 @@ fn policy_after<'s>(
     right: Right,
 ) -> Option<&'s Policy>
     ensures { option_copied result ≡ policy_after
-        (record { model = model.now; field = field.now }) right (option_copied before.entry) command.now }
+        (record { model = model.now; field = field.now }) right
+        (option_copied before.entry) command.now }
 {
     if !is_on(model, field, command) {
         return before;

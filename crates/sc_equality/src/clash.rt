@@ -24,8 +24,11 @@ pub fn find_clash(
     requires classes { length parts.now.classes ≡ gaps.now.terms }
     requires terms { members.now.terms ≡ gaps.now.terms }
     ensures found { IfSome result (IsClash parts.now gaps.now members.now.visits from into) }
-    ensures free { IfNone result ((anchor_at parts.now into ≡ None) ⊎ (anchor_at parts.now from ≡ None)) }
-    ensures none { IfNone result ((k s t : ℕ) → k < length gaps.now.pairs → Joins (pair_at gaps.now.pairs k) s t → has_visited members.now.visits t ≡ true → class_at parts.now s ≢ into) }
+    ensures free { IfNone result ((anchor_at parts.now into ≡ None) ⊎
+        (anchor_at parts.now from ≡ None)) }
+    ensures none { IfNone result ((k s t : ℕ) → k < length gaps.now.pairs →
+        Joins (pair_at gaps.now.pairs k) s t → has_visited members.now.visits t ≡ true →
+        class_at parts.now s ≢ into) }
 {
     if let (Some(left), Some(right)) = (parts.anchor_of(from), parts.anchor_of(into)) {
         return Some(Failure {
@@ -48,7 +51,8 @@ fn find_gap(parts: &Partition, gaps: &Edges, term: u32, into: u32) -> Option<Fai
     requires within { term < gaps.now.terms }
     requires classes { length parts.now.classes ≡ gaps.now.terms }
     ensures found { IfSome result (IsGapInto parts.now gaps.now term into) }
-    ensures none { IfNone result ((k s : ℕ) → k < length gaps.now.pairs → Joins (pair_at gaps.now.pairs k) s term → class_at parts.now s ≢ into) }
+    ensures none { IfNone result ((k s : ℕ) → k < length gaps.now.pairs →
+        Joins (pair_at gaps.now.pairs k) s term → class_at parts.now s ≢ into) }
 {
     let mut next = gaps.newest(term);
     while let Some(edge) = next {

@@ -1,5 +1,6 @@
 //! Pairs of terms as the edges of a graph.
-ghost use Rattle.std.specs.Prelude.{◌≡◌, ◌≢◌, true, ◌-◌, ◌<◌, ◌^◌, [], ◌∷◌, ◌++◌, length, take, IfOk, IfSome};
+ghost use Rattle.std.specs.Prelude.{◌≡◌, ◌≢◌, true, ◌-◌, ◌<◌, ◌^◌, [], ◌∷◌, ◌++◌, length, take};
+ghost use Rattle.std.specs.Prelude.{IfOk, IfSome};
 ghost use Rattle.sc_equality.specs.Edges.{pair_at, mentions, IsNewestBelow, Joins};
 
 use sc_procedure::push_within;
@@ -49,7 +50,8 @@ impl Model for Edges {
       capacity = s.limit;
     } };
 
-    ghost invariant = { λ s. IsSoundEdges s.list.items s.newest.items s.limit (vec_capacity s.list) };
+    ghost invariant = { λ s. IsSoundEdges s.list.items s.newest.items s.limit
+        (vec_capacity s.list) };
 }
 
 impl Edges {
@@ -94,7 +96,8 @@ impl Edges {
     /// Takes the last number back.
     pub fn pop(&mut self)
         requires { 0 < length self.old.pairs }
-        ensures { self.new ≡ record self.old { pairs = take (length self.old.pairs - 1) self.old.pairs } }
+        ensures { self.new
+            ≡ record self.old { pairs = take (length self.old.pairs - 1) self.old.pairs } }
     {
         match self.list.pop() {
             None => (),

@@ -1,5 +1,6 @@
 //! The decision procedure for equality of terms.
-ghost use Rattle.std.specs.Prelude.{◌≡◌, ◌≢◌, ◌-◌, ◌<◌, ◌↔◌, ◌^◌, [], ◌∷◌, ◌++◌, length, take, All, AllPairs, IsTrue, IfOk};
+ghost use Rattle.std.specs.Prelude.{◌≡◌, ◌≢◌, ◌-◌, ◌<◌, ◌↔◌, ◌^◌, [], ◌∷◌, ◌++◌, length, take, All};
+ghost use Rattle.std.specs.Prelude.{AllPairs, IsTrue, IfOk};
 ghost use Rattle.sc_procedure.specs.Models.{HasModel};
 
 use crate::clash::find_clash;
@@ -23,8 +24,8 @@ use std::marker::Model;
 /// numbers, one for each term, in which the fixed terms have different ones.
 ///
 /// The terms that the asserted equalities put together have one class number. To join two classes
-/// the smaller one is relabelled, and for a conflict the equalities that joined classes are searched
-/// as the edges of a graph.
+/// the smaller one is relabelled, and for a conflict the equalities that joined classes are
+/// searched as the edges of a graph.
 #[derive(Drop)]
 pub struct Equality {
     entries: Vec<Entry>,
@@ -77,7 +78,8 @@ impl Equality {
         requires capacity_fits { capacity < 2 ^ 32 }
         requires fixed_in { All (λ f. f < terms) fixed.now }
         requires fixed_once { AllPairs (λ f g. f ≢ g) fixed.now }
-        ensures { IfOk result (λ e. e ≡ record { literals = []; capacity = capacity; terms = terms; fixed = fixed.now }) }
+        ensures { IfOk result (λ e. e
+            ≡ record { literals = []; capacity = capacity; terms = terms; fixed = fixed.now }) }
     {
         Ok(Equality {
             entries: Vec::with_capacity(alloc, capacity)?,
@@ -94,12 +96,15 @@ impl Equality {
 
     /// Asserts `Same(left, right)`.
     fn assert_same(&mut self, left: u32, right: u32) -> bool
-        requires has_model { HasModel (is_classes self.old.terms self.old.fixed) meets_literal self.old.literals }
+        requires has_model { HasModel
+            (is_classes self.old.terms self.old.fixed) meets_literal self.old.literals }
         requires room { length self.old.literals < self.old.capacity }
         requires left_in { left < self.old.terms }
         requires right_in { right < self.old.terms }
-        ensures verdict { IsTrue result ↔ HasModel (is_classes self.new.terms self.new.fixed) meets_literal self.new.literals }
-        ensures list { self.new ≡ record self.old { literals = self.old.literals ++ Same left right ∷ [] } }
+        ensures verdict { IsTrue result ↔
+            HasModel (is_classes self.new.terms self.new.fixed) meets_literal self.new.literals }
+        ensures list { self.new
+            ≡ record self.old { literals = self.old.literals ++ Same left right ∷ [] } }
     {
         if self.parts.class_of(left) == self.parts.class_of(right) {
             let entry = Entry::Known(left, right);
@@ -126,12 +131,15 @@ impl Equality {
 
     /// Asserts `Differ(left, right)`.
     fn assert_differ(&mut self, left: u32, right: u32) -> bool
-        requires has_model { HasModel (is_classes self.old.terms self.old.fixed) meets_literal self.old.literals }
+        requires has_model { HasModel
+            (is_classes self.old.terms self.old.fixed) meets_literal self.old.literals }
         requires room { length self.old.literals < self.old.capacity }
         requires left_in { left < self.old.terms }
         requires right_in { right < self.old.terms }
-        ensures verdict { IsTrue result ↔ HasModel (is_classes self.new.terms self.new.fixed) meets_literal self.new.literals }
-        ensures list { self.new ≡ record self.old { literals = self.old.literals ++ Differ left right ∷ [] } }
+        ensures verdict { IsTrue result ↔
+            HasModel (is_classes self.new.terms self.new.fixed) meets_literal self.new.literals }
+        ensures list { self.new
+            ≡ record self.old { literals = self.old.literals ++ Differ left right ∷ [] } }
     {
         if self.parts.class_of(left) != self.parts.class_of(right) {
             let entry = Entry::Apart(left, right);
@@ -152,7 +160,8 @@ impl Equality {
     /// Takes the last literal back.
     fn undo_one(&mut self)
         requires { 0 < length self.old.literals }
-        ensures { self.new ≡ record self.old { literals = take (length self.old.literals - 1) self.old.literals } }
+        ensures { self.new
+            ≡ record self.old { literals = take (length self.old.literals - 1) self.old.literals } }
     {
         if let Some(last) = self.entries.pop() {
             self.links.pop();

@@ -1,7 +1,8 @@
 //! Class numbers of terms.
 ghost use Rattle.std.specs.Prelude.{◌≡◌, ◌<◌, ◌^◌, length, slice_set, IfOk, All};
 ghost use Rattle.std.specs.List.{range_with_len};
-ghost use Rattle.sc_equality.specs.Partition.{start, first_anchors, joined, class_at, anchor_at, AreMembers, IsRelabelled};
+ghost use Rattle.sc_equality.specs.Partition.{start, first_anchors, joined, class_at, anchor_at};
+ghost use Rattle.sc_equality.specs.Partition.{AreMembers, IsRelabelled};
 
 use crate::visits::Visits;
 use std::alloc::{AllocError, Global};

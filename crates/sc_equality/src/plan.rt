@@ -16,7 +16,9 @@ pub fn plan_join(parts: &Partition, left: u32, right: u32) -> Join
     ensures right { result.right ≡ right }
     ensures near { (result.near ≡ left) ⊎ (result.near ≡ right) }
     ensures near_from { class_at parts.now result.near ≡ result.from }
-    ensures ends { ((class_at parts.now left ≡ result.from) × (class_at parts.now right ≡ result.into)) ⊎ ((class_at parts.now left ≡ result.into) × (class_at parts.now right ≡ result.from)) }
+    ensures ends { ((class_at parts.now left ≡ result.from) ×
+        (class_at parts.now right ≡ result.into)) ⊎
+        ((class_at parts.now left ≡ result.into) × (class_at parts.now right ≡ result.from)) }
     ensures apart { result.from ≢ result.into }
     ensures kept { result.anchor ≡ anchor_at parts.now result.into }
 {

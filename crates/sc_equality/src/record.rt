@@ -1,5 +1,6 @@
 //! The push of a literal with its edges.
-ghost use Rattle.std.specs.Prelude.{◌≡◌, ◌<◌, ◌≤◌, [], ◌∷◌, ◌++◌, length, vec_len, vec_capacity, IfSome};
+ghost use Rattle.std.specs.Prelude.{◌≡◌, ◌<◌, ◌≤◌, [], ◌∷◌, ◌++◌, length, vec_len, vec_capacity};
+ghost use Rattle.std.specs.Prelude.{IfSome};
 ghost use Rattle.sc_equality.specs.EntryEnds.{link_of, gap_of, AreEnds};
 
 use crate::edges::Edges;

@@ -35,7 +35,8 @@ fn visit_neighbours(edges: &Edges, visits: &mut Visits, place: u32)
     requires same_terms { visits.old.terms ≡ edges.now.terms }
     requires tree { IsTree edges.now.pairs visits.old.visits }
     ensures tree { IsTree edges.now.pairs visits.new.visits }
-    ensures around { AroundIsVisited edges.now.pairs visits.new.visits (visit_at visits.old.visits place).term }
+    ensures around { AroundIsVisited edges.now.pairs visits.new.visits
+        (visit_at visits.old.visits place).term }
     ensures grows { Grows visits.old.visits visits.new.visits }
     ensures terms { visits.new.terms ≡ visits.old.terms }
 {

@@ -1,5 +1,6 @@
 //! The terms that a search has come to, and from where.
-ghost use Rattle.std.specs.Prelude.{◌≡◌, ◌≢◌, ◌<◌, ◌≤◌, ◌^◌, true, false, [], ◌∷◌, ◌++◌, length, slice_get, IfOk, IfSome, IfNone, All};
+ghost use Rattle.std.specs.Prelude.{◌≡◌, ◌≢◌, ◌<◌, ◌≤◌, ◌^◌, true, false, [], ◌∷◌, ◌++◌, length};
+ghost use Rattle.std.specs.Prelude.{slice_get, IfOk, IfSome, IfNone, All};
 ghost use Rattle.sc_equality.specs.Visits.{has_visited, visit_at, MarkedFrom};
 
 use sc_procedure::push_within;
@@ -116,7 +117,8 @@ fn unmark(visits: &[Visit], seen: &mut [bool])
 
 /// The place of the visit of a term, if there is one.
 fn place_among(visits: &[Visit], term: u32) -> Option<usize>
-    ensures found { IfSome result (λ p. (p < length visits.now) × ((visit_at visits.now p).term ≡ term)) }
+    ensures found { IfSome result (λ p. (p < length visits.now) ×
+        ((visit_at visits.now p).term ≡ term)) }
     ensures none { IfNone result (All (λ v. v.term ≢ term) visits.now) }
 {
     visits.iter().position(|visit| visit.term == term)

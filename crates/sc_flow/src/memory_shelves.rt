@@ -115,7 +115,8 @@ impl Shelf for MemShelf {
         ensures within { IfOk result (IsWithin limit) }
         ensures counted { result ≡ Err ShelfErr.Failed → Rose self.old.faults self.new.faults }
         ensures never_falls { self.old.faults ≤ self.new.faults }
-        ensures fails { (result ≡ Err ShelfErr.Failed) ↔ Contains self.old.failing self.old.fetches }
+        ensures fails { (result ≡ Err ShelfErr.Failed) ↔
+            Contains self.old.failing self.old.fetches }
         ensures after { self.new ≡ record self.old {
           fetches = next_count self.old.fetches;
           faults = faults_after result self.old.faults;

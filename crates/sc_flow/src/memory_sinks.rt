@@ -1,5 +1,6 @@
 //! Sinks in memory.
-ghost use Rattle.std.specs.Prelude.{◌≡◌, ℕ, ◌<◌, ◌≤◌, ◌↔◌, [], ◌++◌, length, take, None, Some, OnOk, IfOk, OnErr, IsErr};
+ghost use Rattle.std.specs.Prelude.{◌≡◌, ℕ, ◌<◌, ◌≤◌, ◌↔◌, [], ◌++◌, length, take, None, Some};
+ghost use Rattle.std.specs.Prelude.{OnOk, IfOk, OnErr, IsErr};
 ghost use Rattle.std.specs.Option.{option_copied};
 ghost use Rattle.sc_flow.specs.Faults.{Rose, next_count};
 ghost use Rattle.sc_flow.specs.Sinks.{FailsNext, taken_of, told_after};
@@ -37,7 +38,8 @@ impl Model for MemSink {
       faults = s.faults;
     } };
 
-    ghost invariant = { λ s. (length s.bytes.items ≤ s.room) × (s.room ≤ vec_capacity s.bytes) × (0 < s.step) };
+    ghost invariant = { λ s. (length s.bytes.items ≤ s.room) × (s.room ≤ vec_capacity s.bytes) ×
+        (0 < s.step) };
 }
 
 impl MemSink {
@@ -180,7 +182,8 @@ impl Sink for SureSink {
     fn put(&mut self, piece: &[u8]) -> Result<usize, Failed>
         requires { 0 < length piece.now }
         ensures whole { result ≡ Ok (length piece.now) }
-        ensures told { self.new ≡ record self.old { told = told_after self.old.room self.old.told piece.now } }
+        ensures told { self.new
+            ≡ record self.old { told = told_after self.old.room self.old.told piece.now } }
     {
         if self.room - self.bytes.len() < piece.len() {
             self.overrun = true;

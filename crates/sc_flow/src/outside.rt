@@ -1,5 +1,6 @@
 //! The traits of outside objects, and what their calls answer.
-ghost use Rattle.std.specs.Prelude.{◌≡◌, ℕ, ◌<◌, ◌≤◌, List, length, take, Option, IfOk, IfSome, OnOk, OnErr};
+ghost use Rattle.std.specs.Prelude.{◌≡◌, ℕ, ◌<◌, ◌≤◌, List, length, take, Option, IfOk, IfSome};
+ghost use Rattle.std.specs.Prelude.{OnOk, OnErr};
 ghost use Rattle.sc_flow.specs.Faults.{Rose};
 ghost use Rattle.sc_flow.specs.Files.{Files, IsFound, IsWithin};
 ghost use Rattle.sc_flow.specs.Told.{Appends, AppendsFront};
@@ -45,7 +46,8 @@ pub enum Found {
 
 /// Where bytes are written.
 pub trait Sink {
-    // The bytes put so far, where the sink tells them. A sink may stop telling, and never begins to.
+    // The bytes put so far, where the sink tells them. A sink may stop telling, and never begins
+    // to.
     ghost told: { Self → Option (List ℕ) };
 
     // How many faults it counted.
@@ -56,7 +58,8 @@ pub trait Sink {
         requires { 0 < length piece.now }
         ensures some { IfOk result (λ n. 0 < n) }
         ensures within { IfOk result (λ n. n ≤ length piece.now) }
-        ensures appended { IfOk result (λ n. Appends (told self.old) (told self.new) (take n piece.now)) }
+        ensures appended { IfOk result
+            (λ n. Appends (told self.old) (told self.new) (take n piece.now)) }
         ensures kept { OnErr result (told self.new ≡ told self.old) }
         ensures counted { OnErr result (Rose (faults self.old) (faults self.new)) }
         ensures never_falls { faults self.old ≤ faults self.new };
@@ -74,7 +77,8 @@ pub trait Shelf {
     ///
     /// `Failed` comes only where the shelf counted a fault, and `OutOfMemory` for want of memory.
     fn fetch(&mut self, alloc: Global, name: &[u8], limit: usize) -> Result<Found, ShelfErr>
-        ensures found { IfOk result (λ found. IfSome (told self.old) (λ files. IsFound (files name.now) limit found)) }
+        ensures found { IfOk result
+            (λ found. IfSome (told self.old) (λ files. IsFound (files name.now) limit found)) }
         ensures within { IfOk result (IsWithin limit) }
         ensures kept { told self.new ≡ told self.old }
         ensures counted { result ≡ Err ShelfErr.Failed → Rose (faults self.old) (faults self.new) }

@@ -1,5 +1,6 @@
 //! The outside of the running program: standard output, and the files of the current folder.
-ghost use Rattle.std.specs.Prelude.{◌≡◌, ◌<◌, ◌≤◌, ◌↔◌, ℕ, length, Option, IfOk, IfSome, OnErr, IsTrue, MatchResult, None, Some};
+ghost use Rattle.std.specs.Prelude.{◌≡◌, ◌<◌, ◌≤◌, ◌↔◌, ℕ, length, Option, IfOk, IfSome, OnErr};
+ghost use Rattle.std.specs.Prelude.{IsTrue, MatchResult, None, Some};
 ghost use Rattle.std.specs.Io.KnownBytes.{WriteAppends, Keeps};
 ghost use Rattle.sc_flow.specs.Faults.{Rose, next_count};
 ghost use Rattle.sc_flow.specs.Files.{Files, IsFound, IsWithin};
@@ -56,8 +57,10 @@ impl<W: Write> Sink for StdSink<W> {
         requires { 0 < length piece.now }
         ensures some { IfOk result (λ n. 0 < n) }
         ensures within { IfOk result (λ n. n ≤ length piece.now) }
-        ensures written { WriteAppends (W.contents self.old.writer) (W.contents self.new.writer) result piece.now }
-        ensures counts { MatchResult result (λ _. self.new.faults ≡ self.old.faults) (λ _. self.new.faults ≡ next_count self.old.faults) }
+        ensures written { WriteAppends (W.contents self.old.writer)
+            (W.contents self.new.writer) result piece.now }
+        ensures counts { MatchResult result (λ _. self.new.faults
+            ≡ self.old.faults) (λ _. self.new.faults ≡ next_count self.old.faults) }
         ensures counted { OnErr result (Rose self.old.faults self.new.faults) }
         ensures never_falls { self.old.faults ≤ self.new.faults }
     {
@@ -74,7 +77,8 @@ impl<W: Write> Sink for StdSink<W> {
 /// Writes some of the bytes, once more where a signal comes in between.
 fn write_some<W: Write>(writer: &mut W, piece: &[u8]) -> io::Result<usize>
     ensures within { IfOk result (λ n. n ≤ length piece.now) }
-    ensures written { WriteAppends (W.contents writer.old) (W.contents writer.new) result piece.now }
+    ensures written { WriteAppends (W.contents writer.old)
+        (W.contents writer.new) result piece.now }
 {
     for _ in 0..u64::MAX {
         match writer.write(piece) {
@@ -94,7 +98,8 @@ pub trait Folder {
 
     /// Opens the file of this name; a name that stands for no file is an error of absence.
     fn open_file(&self, name: &str) -> io::Result<Self::File>
-        ensures { IfSome (files self.now) (λ files. IsOpened Self.File.remaining (files name.now) result) };
+        ensures { IfSome (files self.now)
+            (λ files. IsOpened Self.File.remaining (files name.now) result) };
 }
 
 /// The folder that the program runs in, through a handle as `main` is given.
@@ -159,9 +164,12 @@ impl<D: Folder> Shelf for DirShelf<D> {
     ghost faults = { λ shelf. shelf.faults };
 
     fn fetch(&mut self, alloc: Global, name: &[u8], limit: usize) -> Result<Found, ShelfErr>
-        ensures found { IfOk result (λ found. IfSome (D.files self.old.folder) (λ files. IsFound (files name.now) limit found)) }
+        ensures found { IfOk result
+            (λ found. IfSome (D.files self.old.folder)
+            (λ files. IsFound (files name.now) limit found)) }
         ensures within { IfOk result (IsWithin limit) }
-        ensures after { self.new ≡ record self.old { faults = faults_after result self.old.faults } }
+        ensures after { self.new
+            ≡ record self.old { faults = faults_after result self.old.faults } }
         ensures counted { result ≡ Err ShelfErr.Failed → Rose self.old.faults self.new.faults }
         ensures never_falls { self.old.faults ≤ self.new.faults }
     {
@@ -180,7 +188,8 @@ fn read_file<D: Folder>(
     name: &[u8],
     limit: usize,
 ) -> Result<Found, ShelfErr>
-    ensures found { IfOk result (λ found. IfSome (D.files folder.now) (λ files. IsFound (files name.now) limit found)) }
+    ensures found { IfOk result
+        (λ found. IfSome (D.files folder.now) (λ files. IsFound (files name.now) limit found)) }
     ensures within { IfOk result (IsWithin limit) }
 {
     let Ok(name) = str::from_utf8(name) else {
@@ -215,7 +224,8 @@ fn cause_of(kind: ErrorKind) -> ShelfErr
 
 /// Reads to the end, but no more than one byte above the limit.
 fn read_up_to<R: Read + Drop>(alloc: Global, file: R, limit: usize) -> Result<Found, ShelfErr>
-    ensures found { IfOk result (λ found. IfSome (R.remaining file) (λ bytes. IsFound (Some bytes) limit found)) }
+    ensures found { IfOk result
+        (λ found. IfSome (R.remaining file) (λ bytes. IsFound (Some bytes) limit found)) }
     ensures within { IfOk result (IsWithin limit) }
 {
     let mut bytes = Vec::new(alloc);

@@ -18,16 +18,20 @@ pub fn one_tree()
         IsSpelledAt n script_form s ls → IsSpelledAt m script_form t ls → s ≡ t }
 {}
 
-/// The reader of a specification reads the tree that all of the tokens spell within the limits, and else it
-/// answers for the first cause at its place.
+/// The reader of a specification reads the tree that all of the tokens spell within the limits, and
+/// else it answers for the first cause at its place.
 pub fn spec_answers()
-    ensures tree { (x : Spec) (ls : List Piece) → IsSpelled spec_form x ls → answer spec_form ls ≡ Got x [] }
-    ensures means { (m : ℕ) → most_levels ≤ m → (ls : List Piece) → Means m spec_form ls (answer spec_form ls) }
+    ensures tree { (x : Spec) (ls : List Piece) → IsSpelled spec_form x ls →
+        answer spec_form ls ≡ Got x [] }
+    ensures means { (m : ℕ) → most_levels ≤ m → (ls : List Piece) →
+        Means m spec_form ls (answer spec_form ls) }
 {}
 
-/// The reader of a script reads the tree that all of the tokens spell within the limits, and else it
-/// answers for the first cause at its place.
+/// The reader of a script reads the tree that all of the tokens spell within the limits, and else
+/// it answers for the first cause at its place.
 pub fn script_answers()
-    ensures tree { (x : Script) (ls : List Piece) → IsSpelled script_form x ls → answer script_form ls ≡ Got x [] }
-    ensures means { (m : ℕ) → most_levels ≤ m → (ls : List Piece) → Means m script_form ls (answer script_form ls) }
+    ensures tree { (x : Script) (ls : List Piece) → IsSpelled script_form x ls →
+        answer script_form ls ≡ Got x [] }
+    ensures means { (m : ℕ) → most_levels ≤ m → (ls : List Piece) →
+        Means m script_form ls (answer script_form ls) }
 {}

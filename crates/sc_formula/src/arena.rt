@@ -1,7 +1,8 @@
 //! The arena.
 
 ghost use Rattle.std.specs.Prelude.{◌≡◌, ℕ, ◌<◌, ◌≤◌, [], length, slice_get, IfOk, OnErr};
-ghost use Rattle.sc_formula.specs.Nodes.{trees_of, tree_of, tree_from, ArePlaced, IsPlaced, IsBelow};
+ghost use Rattle.sc_formula.specs.Nodes.{trees_of, tree_of, tree_from, ArePlaced, IsPlaced};
+ghost use Rattle.sc_formula.specs.Nodes.{IsBelow};
 ghost use Rattle.sc_formula.specs.Added.{IsAdded};
 
 use crate::node::Node;

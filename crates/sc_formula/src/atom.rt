@@ -3,7 +3,8 @@
 ghost use Rattle.std.specs.Prelude.{◌≡◌, IfOk, is_some, option_and_then, int_lt};
 ghost use Rattle.std.specs.Option.{option_map};
 ghost use Rattle.sc_formula.specs.Nodes.{IsTerm, term_of};
-ghost use Rattle.sc_formula.specs.Truth.{value_of, element_of, number_of, element_at, entry_at, both_pass, are_equal, relates, is_true_value};
+ghost use Rattle.sc_formula.specs.Truth.{value_of, element_of, number_of, element_at, entry_at};
+ghost use Rattle.sc_formula.specs.Truth.{both_pass, are_equal, relates, is_true_value};
 ghost use Rattle.sc_formula.specs.Values.{sval_of};
 
 use crate::term::{Reading, value_of};
@@ -19,7 +20,12 @@ pub(crate) fn are_equal(
 ) -> Result<bool, AllocError>
     requires left { IsTerm reading.arena.now s }
     requires right { IsTerm reading.arena.now t }
-    ensures { IfOk result (λ answer. answer ≡ both_pass are_equal (value_of reading.entry.structure.now reading.entry.elements.now (term_of reading.entry.arena.now s)) (value_of reading.entry.structure.now reading.entry.elements.now (term_of reading.entry.arena.now t))) }
+    ensures { IfOk result (λ answer. answer
+        ≡ both_pass are_equal
+        (value_of reading.entry.structure.now reading.entry.elements.now
+        (term_of reading.entry.arena.now s))
+        (value_of reading.entry.structure.now reading.entry.elements.now
+        (term_of reading.entry.arena.now t))) }
 {
     let left = value_of(alloc, reading, s)?;
     let right = value_of(alloc, reading, t)?;
@@ -28,7 +34,8 @@ pub(crate) fn are_equal(
 
 /// Whether two values are there, and are one.
 fn are_one(left: Option<Value<'_>>, right: Option<Value<'_>>) -> bool
-    ensures { result ≡ both_pass are_equal (option_map sval_of left.entry) (option_map sval_of right.entry) }
+    ensures { result
+        ≡ both_pass are_equal (option_map sval_of left.entry) (option_map sval_of right.entry) }
 {
     match (left, right) {
         (Some(left), Some(right)) => left.equals(right),
@@ -45,7 +52,14 @@ pub(crate) fn is_less(
 ) -> Result<bool, AllocError>
     requires left { IsTerm reading.arena.now s }
     requires right { IsTerm reading.arena.now t }
-    ensures { IfOk result (λ answer. answer ≡ both_pass int_lt (option_and_then number_of (value_of reading.entry.structure.now reading.entry.elements.now (term_of reading.entry.arena.now s))) (option_and_then number_of (value_of reading.entry.structure.now reading.entry.elements.now (term_of reading.entry.arena.now t)))) }
+    ensures { IfOk result (λ answer. answer
+        ≡ both_pass int_lt
+        (option_and_then number_of
+        (value_of reading.entry.structure.now reading.entry.elements.now
+        (term_of reading.entry.arena.now s)))
+        (option_and_then number_of
+        (value_of reading.entry.structure.now reading.entry.elements.now
+        (term_of reading.entry.arena.now t)))) }
 {
     let left = value_of(alloc, reading, s)?;
     let right = value_of(alloc, reading, t)?;
@@ -82,7 +96,12 @@ pub(crate) fn has(
 ) -> Result<bool, AllocError>
     requires left { IsTerm reading.arena.now s }
     requires right { IsTerm reading.arena.now t }
-    ensures { IfOk result (λ answer. answer ≡ both_pass (relates reading.entry.structure.now r) (element_at reading.entry.structure.now reading.entry.elements.now (term_of reading.entry.arena.now s)) (element_at reading.entry.structure.now reading.entry.elements.now (term_of reading.entry.arena.now t))) }
+    ensures { IfOk result (λ answer. answer
+        ≡ both_pass (relates reading.entry.structure.now r)
+        (element_at reading.entry.structure.now reading.entry.elements.now
+        (term_of reading.entry.arena.now s))
+        (element_at reading.entry.structure.now reading.entry.elements.now
+        (term_of reading.entry.arena.now t))) }
 {
     let left = element_at(alloc, reading, s)?;
     let right = element_at(alloc, reading, t)?;
@@ -95,7 +114,9 @@ pub(crate) fn has(
 /// The element that a term is, if it is one.
 fn element_at(alloc: Global, reading: Reading<'_>, t: u32) -> Result<Option<u32>, AllocError>
     requires { IsTerm reading.arena.now t }
-    ensures { IfOk result (λ x. x ≡ element_at reading.entry.structure.now reading.entry.elements.now (term_of reading.entry.arena.now t)) }
+    ensures { IfOk result (λ x. x
+        ≡ element_at reading.entry.structure.now reading.entry.elements.now
+        (term_of reading.entry.arena.now t)) }
 {
     match value_of(alloc, reading, t)? {
         Some(value) => Ok(value.element()),
@@ -111,7 +132,9 @@ fn entry_at<'a>(
     t: u32,
 ) -> Result<Option<Value<'a>>, AllocError>
     requires { IsTerm reading.arena.now t }
-    ensures { IfOk result (λ value. option_map sval_of value ≡ entry_at reading.entry.structure.now reading.entry.elements.now f (term_of reading.entry.arena.now t)) }
+    ensures { IfOk result (λ value. option_map sval_of value
+        ≡ entry_at reading.entry.structure.now reading.entry.elements.now f
+        (term_of reading.entry.arena.now t)) }
 {
     match element_at(alloc, reading, t)? {
         Some(x) => Ok(entry(reading.structure, f, x)),
@@ -122,7 +145,10 @@ fn entry_at<'a>(
 /// Whether a function to truth values gives true at a term.
 pub(crate) fn flag(alloc: Global, reading: Reading<'_>, f: u32, t: u32) -> Result<bool, AllocError>
     requires { IsTerm reading.arena.now t }
-    ensures { IfOk result (λ answer. answer ≡ is_true_value (entry_at reading.entry.structure.now reading.entry.elements.now f (term_of reading.entry.arena.now t))) }
+    ensures { IfOk result (λ answer. answer
+        ≡ is_true_value
+        (entry_at reading.entry.structure.now reading.entry.elements.now f
+        (term_of reading.entry.arena.now t))) }
 {
     match entry_at(alloc, reading, f, t)? {
         Some(value) => Ok(value.is_raised()),
@@ -138,7 +164,9 @@ pub(crate) fn is_present(
     t: u32,
 ) -> Result<bool, AllocError>
     requires { IsTerm reading.arena.now t }
-    ensures { IfOk result (λ answer. answer ≡ is_some (entry_at reading.entry.structure.now reading.entry.elements.now f (term_of reading.entry.arena.now t))) }
+    ensures { IfOk result (λ answer. answer
+        ≡ is_some (entry_at reading.entry.structure.now reading.entry.elements.now f
+        (term_of reading.entry.arena.now t))) }
 {
     let value = entry_at(alloc, reading, f, t)?;
     Ok(value.is_some())

@@ -1,9 +1,12 @@
 //! The truth of formulas on a structure, without recursion: a formula is as deep as it is long.
 
-ghost use Rattle.std.specs.Prelude.{◌≡◌, ℕ, ◌+◌, ◌-◌, ◌<◌, List, [], ◌∷◌, ◌++◌, All, IfOk, OnOk, length, take};
-ghost use Rattle.sc_formula.specs.Nodes.{IsFormula, IsPlaced, formula_of, formula_part, tree_from, trees_of};
+ghost use Rattle.std.specs.Prelude.{◌≡◌, ℕ, ◌+◌, ◌-◌, ◌<◌, List, [], ◌∷◌, ◌++◌, All, IfOk, OnOk};
+ghost use Rattle.std.specs.Prelude.{length, take};
+ghost use Rattle.sc_formula.specs.Nodes.{IsFormula, IsPlaced, formula_of, formula_part, tree_from};
+ghost use Rattle.sc_formula.specs.Nodes.{trees_of};
 ghost use Rattle.sc_formula.specs.Truth.{truth, size_of};
-ghost use Rattle.sc_formula.specs.Evaluation.{AreWaiting, IsMove, IsPlain, HasElement, IsTrialExists, IsTrialForall, IsLeft, cost};
+ghost use Rattle.sc_formula.specs.Evaluation.{AreWaiting, IsMove, IsPlain, HasElement};
+ghost use Rattle.sc_formula.specs.Evaluation.{IsTrialExists, IsTrialForall, IsLeft, cost};
 
 use crate::arena::Arena;
 use crate::atom::{are_equal, flag, has, is_less, is_present};
@@ -64,7 +67,8 @@ impl Waiting {
     /// Forgets the element that was chosen last.
     fn forget_element(&mut self)
         ensures frames { self.new.frames.items ≡ self.old.frames.items }
-        ensures elements { self.new.elements.items ≡ take (length self.old.elements.items - 1) self.old.elements.items }
+        ensures elements { self.new.elements.items
+            ≡ take (length self.old.elements.items - 1) self.old.elements.items }
     {
         let _ = self.elements.pop();
     }
@@ -72,7 +76,8 @@ impl Waiting {
     /// Lets a frame wait that chooses an element.
     fn push_choice(&mut self, frame: Frame, element: u32) -> Result<(), AllocError>
         ensures frames { OnOk result (self.new.frames.items ≡ self.old.frames.items ++ frame ∷ []) }
-        ensures elements { OnOk result (self.new.elements.items ≡ self.old.elements.items ++ element ∷ []) }
+        ensures elements { OnOk result (self.new.elements.items
+            ≡ self.old.elements.items ++ element ∷ []) }
     {
         self.elements.push(element)?;
         self.frames.push(frame)?;
@@ -82,7 +87,8 @@ impl Waiting {
 
 /// Goes on at an element of a sort and those after it, for a formula that holds for some.
 fn try_exists(waiting: &mut Waiting, choice: Choice) -> Result<Step, AllocError>
-    ensures { IsTrialExists waiting.old.frames.items waiting.old.elements.items choice result waiting.new.frames.items waiting.new.elements.items }
+    ensures { IsTrialExists waiting.old.frames.items waiting.old.elements.items choice result
+        waiting.new.frames.items waiting.new.elements.items }
 {
     if choice.element >= choice.size {
         return Ok(Step::Found(false));
@@ -93,7 +99,8 @@ fn try_exists(waiting: &mut Waiting, choice: Choice) -> Result<Step, AllocError>
 
 /// Goes on at an element of a sort and those after it, for a formula that holds for each.
 fn try_forall(waiting: &mut Waiting, choice: Choice) -> Result<Step, AllocError>
-    ensures { IsTrialForall waiting.old.frames.items waiting.old.elements.items choice result waiting.new.frames.items waiting.new.elements.items }
+    ensures { IsTrialForall waiting.old.frames.items waiting.old.elements.items choice result
+        waiting.new.frames.items waiting.new.elements.items }
 {
     if choice.element >= choice.size {
         return Ok(Step::Found(true));
@@ -105,7 +112,8 @@ fn try_forall(waiting: &mut Waiting, choice: Choice) -> Result<Step, AllocError>
 /// Goes on after a part, for what waited for it last.
 fn leave(waiting: &mut Waiting, frame: Frame, found: bool) -> Result<Step, AllocError>
     requires { HasElement frame }
-    ensures { IsLeft waiting.old.frames.items waiting.old.elements.items frame found result waiting.new.frames.items waiting.new.elements.items }
+    ensures { IsLeft waiting.old.frames.items waiting.old.elements.items frame found result
+        waiting.new.frames.items waiting.new.elements.items }
 {
     match frame {
         Frame::Not => Ok(Step::Found(!found)),
@@ -156,7 +164,9 @@ fn next_choice(choice: Choice) -> Choice
 /// The truth of a formula that is no connective and no quantifier.
 fn atom(alloc: Global, reading: Reading<'_>, node: &Node) -> Result<bool, AllocError>
     requires { IsPlaced reading.arena.now node.now }
-    ensures { IfOk result (λ answer. IsPlain node.now → answer ≡ truth reading.entry.structure.now reading.entry.elements.now (formula_part (tree_from (trees_of reading.entry.arena.now) node.now))) }
+    ensures { IfOk result (λ answer. IsPlain node.now →
+        answer ≡ truth reading.entry.structure.now reading.entry.elements.now
+        (formula_part (tree_from (trees_of reading.entry.arena.now) node.now))) }
 {
     match node {
         Node::Yes => Ok(true),
@@ -188,7 +198,11 @@ fn seek(
 ) -> Result<Step, AllocError>
     requires formula { IsFormula arena.now id }
     requires waiting { AreWaiting arena.now waiting.old.frames.items waiting.old.elements.items }
-    ensures { IfOk result (IsMove structure.now arena.now waiting.old.frames.items (truth structure.now waiting.old.elements.items (formula_of arena.now id)) (cost structure.now arena.now (formula_of arena.now id)) waiting.new.frames.items waiting.new.elements.items) }
+    ensures { IfOk result
+        (IsMove structure.now arena.now waiting.old.frames.items
+        (truth structure.now waiting.old.elements.items (formula_of arena.now id))
+        (cost structure.now arena.now
+        (formula_of arena.now id)) waiting.new.frames.items waiting.new.elements.items) }
 {
     match arena.node(id) {
         Node::Not(a) => {

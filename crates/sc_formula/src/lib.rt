@@ -5,7 +5,8 @@
 //! - `arena`: `Arena`, which numbers nodes and shares equal ones.
 //! - `makers`: the calls of `Arena` that add one node each.
 //! - `normal_form`: [`nnf`], with `marks`: which normal forms are wanted.
-//! - `evaluation`: [`holds`], with `atom`, `term` and `value`: what atoms and terms are on a structure.
+//! - `evaluation`: [`holds`], with `atom`, `term` and `value`: what atoms and terms are on a
+//!   structure.
 #![tactic(auto)]
 
 mod arena;

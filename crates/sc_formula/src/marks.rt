@@ -1,6 +1,7 @@
 //! Which normal forms of which formulas are wanted for that of one formula.
 
-ghost use Rattle.std.specs.Prelude.{◌≡◌, ℕ, ◌+◌, ◌^◌, ◌≤◌, ◌<◌, true, length, IfOk, Some, slice_get};
+ghost use Rattle.std.specs.Prelude.{◌≡◌, ℕ, ◌+◌, ◌^◌, ◌≤◌, ◌<◌, true, length, IfOk, Some};
+ghost use Rattle.std.specs.Prelude.{slice_get};
 ghost use Rattle.sc_formula.specs.Nodes.{IsBelow};
 ghost use Rattle.sc_formula.specs.Marks.{wanted_at, Covers, AreKept, PassesOn, ArePassedOn};
 

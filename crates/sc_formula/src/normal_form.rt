@@ -1,12 +1,14 @@
 //! The negation normal form.
 
-ghost use Rattle.std.specs.Prelude.{◌≡◌, ℕ, Bool, ◌+◌, ◌*◌, ◌<◌, ◌≤◌, length, slice_get, true, false, IfOk, OnErr, Some};
+ghost use Rattle.std.specs.Prelude.{◌≡◌, ℕ, Bool, ◌+◌, ◌*◌, ◌<◌, ◌≤◌, length, slice_get, true};
+ghost use Rattle.std.specs.Prelude.{false, IfOk, OnErr, Some};
 ghost use Rattle.sc_formula.specs.Nodes.{IsFormula, formula_of, IsPlaced, ArePlaced, IsBelow};
 ghost use Rattle.sc_formula.specs.Added.{Extends};
 ghost use Rattle.sc_formula.specs.NormalForm.{signed_form, normal_form, IsNormal};
 ghost use Rattle.sc_formula.specs.Marks.{ArePassedOn};
 ghost use Rattle.sc_formula.specs.Truth.{IsEquallyTrue};
-ghost use Rattle.sc_formula.specs.Forms.{HasParts, AreFormsOf, AreForms, is_wanted, step_of, IsTaken, CanTake};
+ghost use Rattle.sc_formula.specs.Forms.{HasParts, AreFormsOf, AreForms, is_wanted, step_of};
+ghost use Rattle.sc_formula.specs.Forms.{IsTaken, CanTake};
 ghost use Rattle.sc_formula.specs.Nodes.{StandsFor};
 ghost use Rattle.sc_formula.specs.declared.node.Node.{Node as AnyNode};
 
@@ -28,9 +30,11 @@ pub(crate) struct Forms {
 pub fn nnf(arena: &mut Arena, id: u32) -> Result<u32, AllocError>
     requires formula { IsFormula arena.old id }
     requires room { 3 * length arena.old ≤ 4000000 }
-    ensures form { IfOk result (λ form. StandsFor arena.new form (normal_form (formula_of arena.old id))) }
+    ensures form { IfOk result
+        (λ form. StandsFor arena.new form (normal_form (formula_of arena.old id))) }
     ensures normal { IfOk result (λ form. IsNormal (formula_of arena.new form)) }
-    ensures same_truth { IfOk result (λ form. IsEquallyTrue (formula_of arena.new form) (formula_of arena.old id)) }
+    ensures same_truth { IfOk result
+        (λ form. IsEquallyTrue (formula_of arena.new form) (formula_of arena.old id)) }
     ensures kept { Extends arena.old arena.new }
     ensures size { length arena.new ≤ 3 * length arena.old }
 {
@@ -148,7 +152,8 @@ fn positive_if(arena: &mut Arena, id: u32, wanted: bool, forms: &[Forms]) -> Res
     requires room { length arena.old < 4000000 }
     ensures kept { Extends arena.old arena.new }
     ensures one_more { length arena.new ≤ length arena.old + 1 }
-    ensures form { IfOk result (λ form. wanted ≡ true → IsFormula arena.old id → StandsFor arena.new form (signed_form true (formula_of arena.old id))) }
+    ensures form { IfOk result (λ form. wanted ≡ true → IsFormula arena.old id →
+        StandsFor arena.new form (signed_form true (formula_of arena.old id))) }
 {
     if wanted {
         positive_form(arena, id, forms)
@@ -167,7 +172,8 @@ fn negative_if(arena: &mut Arena, id: u32, wanted: bool, forms: &[Forms]) -> Res
     requires room { length arena.old < 4000000 }
     ensures kept { Extends arena.old arena.new }
     ensures one_more { length arena.new ≤ length arena.old + 1 }
-    ensures form { IfOk result (λ form. wanted ≡ true → IsFormula arena.old id → StandsFor arena.new form (signed_form false (formula_of arena.old id))) }
+    ensures form { IfOk result (λ form. wanted ≡ true → IsFormula arena.old id →
+        StandsFor arena.new form (signed_form false (formula_of arena.old id))) }
 {
     if wanted {
         negative_form(arena, id, forms)
@@ -183,11 +189,13 @@ fn convert(arena: &mut Arena, id: u32, wanted: Wanted, forms: &[Forms]) -> Resul
     requires all { ArePlaced arena.old }
     requires placed { IsPlaced arena.old node }
     requires below { IsBelow (length forms.now) node }
-    requires parts { (sign : Bool) → is_wanted sign wanted ≡ true → HasParts arena.old forms.now sign node }
+    requires parts { (sign : Bool) → is_wanted sign wanted ≡ true →
+        HasParts arena.old forms.now sign node }
     requires room { length arena.old + 1 < 4000000 }
     ensures kept { Extends arena.old arena.new }
     ensures two_more { length arena.new ≤ length arena.old + 2 }
-    ensures forms { IfOk result (λ forms. IsFormula arena.old id → AreFormsOf arena.new wanted id forms) }
+    ensures forms { IfOk result (λ forms. IsFormula arena.old id →
+        AreFormsOf arena.new wanted id forms) }
 {
     let positive = positive_if(arena, id, wanted.positive, forms)?;
     let _ = arena.len();

@@ -30,7 +30,9 @@ pub(crate) fn value_of<'a>(
     id: u32,
 ) -> Result<Option<Value<'a>>, AllocError>
     requires { IsTerm reading.arena.now id }
-    ensures { IfOk result (λ value. option_map sval_of value ≡ value_of reading.entry.structure.now reading.entry.elements.now (term_of reading.entry.arena.now id)) }
+    ensures { IfOk result (λ value. option_map sval_of value
+        ≡ value_of reading.entry.structure.now reading.entry.elements.now
+        (term_of reading.entry.arena.now id)) }
 {
     let mut functions = Vec::new(alloc);
     let mut value = innermost(reading, id, &mut functions)?;
@@ -49,7 +51,10 @@ fn innermost<'a>(
 ) -> Result<Option<Value<'a>>, AllocError>
     requires term { IsTerm reading.arena.now id }
     requires empty { functions.old.items ≡ [] }
-    ensures { IfOk result (λ value. applied reading.entry.structure.now functions.new.items (option_map sval_of value) ≡ value_of reading.entry.structure.now reading.entry.elements.now (term_of reading.entry.arena.now id)) }
+    ensures { IfOk result
+        (λ value. applied reading.entry.structure.now functions.new.items (option_map sval_of value)
+        ≡ value_of reading.entry.structure.now reading.entry.elements.now
+        (term_of reading.entry.arena.now id)) }
 {
     let mut at = id;
     loop {
@@ -89,7 +94,8 @@ fn own_value<'a>(elements: &[u32], node: &'a Node) -> Option<Value<'a>>
 
 /// The element of the variable that so many quantifiers stand above.
 fn element_value<'a>(elements: &[u32], depth: u32) -> Option<Value<'a>>
-    ensures { option_map sval_of result ≡ option_map (λ x. SVal.Rec x) (slice_get elements.now depth) }
+    ensures { option_map sval_of result
+        ≡ option_map (λ x. SVal.Rec x) (slice_get elements.now depth) }
 {
     match elements.get(depth as usize) {
         Some(x) => Some(Value::Rec(*x)),
@@ -99,7 +105,8 @@ fn element_value<'a>(elements: &[u32], depth: u32) -> Option<Value<'a>>
 
 /// What a function has at a value.
 fn applied_to<'a>(structure: &'a Structure, f: u32, value: Option<Value<'a>>) -> Option<Value<'a>>
-    ensures { option_map sval_of result ≡ apply_to structure.entry.now f (option_map sval_of value.entry) }
+    ensures { option_map sval_of result
+        ≡ apply_to structure.entry.now f (option_map sval_of value.entry) }
 {
     match value?.element() {
         Some(x) => entry(structure, f, x),

@@ -3,7 +3,8 @@
 ghost use Rattle.std.specs.Prelude.{◌≡◌, ◌==◌, ◌&&◌, None, slice_index_or};
 ghost use Rattle.std.specs.List.{list_any};
 ghost use Rattle.std.specs.Option.{option_map};
-ghost use Rattle.sc_formula.specs.Truth.{elements, entry, relates, element_of, number_of, are_equal, is_raised, size_of};
+ghost use Rattle.sc_formula.specs.Truth.{elements, entry, relates, element_of, number_of};
+ghost use Rattle.sc_formula.specs.Truth.{are_equal, is_raised, size_of};
 ghost use Rattle.sc_formula.specs.Values.{sval_of};
 
 use crate::structure::{SVal, Structure};

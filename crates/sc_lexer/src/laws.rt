@@ -5,7 +5,8 @@ ghost use Rattle.sc_lexer.specs.Lexes.{Lexes, is_blank};
 ghost use Rattle.sc_lexer.specs.Literal.{IsLiteral};
 ghost use Rattle.sc_lexer.specs.Refused.{Refuses};
 ghost use Rattle.sc_lexer.specs.Token.{IsBefore, IsIn, lexeme_of, lexemes_of};
-ghost use Rattle.sc_lexer.specs.Written.{IsPart, Spaced, are_apart, lexemes, places, text_of_lexemes};
+ghost use Rattle.sc_lexer.specs.Written.{IsPart, Spaced, are_apart, lexemes, places};
+ghost use Rattle.sc_lexer.specs.Written.{text_of_lexemes};
 ghost use Rattle.sc_lexer.specs.declared.lex_err.LexErr.{LexErr};
 ghost use Rattle.sc_lexer.specs.declared.limits.TheConstants.{MOST_TEXT_BYTES};
 ghost use Rattle.sc_lexer.specs.declared.token.Token.{Token};
@@ -60,5 +61,6 @@ pub fn literals_are_texts()
     ensures text { (text : List ℕ) (token : Token) (value : List ℕ) →
         IsUtf8 text → IsLiteral (lexeme_of text token).bytes value → IsUtf8 value }
     ensures short { (lexeme : Lexeme) (value : List ℕ) →
-        IsLexeme lexeme → lexeme.kind ≡ Text → IsLiteral lexeme.bytes value → length value ≤ MOST_TEXT_BYTES }
+        IsLexeme lexeme → lexeme.kind ≡ Text → IsLiteral lexeme.bytes value →
+        length value ≤ MOST_TEXT_BYTES }
 {}

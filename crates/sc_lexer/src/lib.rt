@@ -1,14 +1,16 @@
 //! The tokens of a text.
 //!
-//! Specifications, migration scripts, databases and requests are written in one set of tokens: words,
-//! numbers, texts in quotes and signs, with blanks and comments between them. [`lex`] cuts a text into
-//! its tokens, and says where each begins and ends; parsers go on from there. The rules stand in
+//! Specifications, migration scripts, databases and requests are written in one set of tokens:
+//! words, numbers, texts in quotes and signs, with blanks and comments between them. [`lex`] cuts a
+//! text into its tokens, and says where each begins and ends; parsers go on from there. The rules
+//! stand in
 //! `specs/`, the relation of a text and its tokens in `specs/Lexes.antt`.
 //!
 //! - `token`: [`Token`], [`TokenKind`], and [`bytes_of`], the bytes of a token.
 //! - `lex_err`: [`LexErr`], what `lex` answers where a text has no tokens: the cause and its place.
 //! - `limits`: how long a name and a text may be, and how large a number.
-//! - `gap`, `word`, `number`, `literal`, `sign`: what may stand at the front of a text, one kind of thing each.
+//! - `gap`, `word`, `number`, `literal`, `sign`: what may stand at the front of a text, one kind of
+//!   thing each.
 //! - `front`: the token at the front of a text.
 //! - `text`: [`lex`], the tokens of a whole text.
 //! - `laws`: what holds of the tokens of any text.

@@ -1,13 +1,15 @@
 //! Texts in quotes.
 
 ghost use Rattle.sc_lexer.specs.Front.{literal_front};
-ghost use Rattle.sc_lexer.specs.LiteralEnd.{IsCharacterAt, character_front, closed, ends_line, escape_len, is_hex_pair, literal_from};
+ghost use Rattle.sc_lexer.specs.LiteralEnd.{IsCharacterAt, character_front, closed, ends_line};
+ghost use Rattle.sc_lexer.specs.LiteralEnd.{escape_len, is_hex_pair, literal_from};
 ghost use Rattle.sc_lexer.specs.Lexeme.{IsLexeme};
 ghost use Rattle.sc_lexer.specs.Literal.{IsLiteral, WritesByte, escaped};
 ghost use Rattle.sc_lexer.specs.Token.{IsIn, lexeme_of};
 ghost use Rattle.std.specs.Char.{digit_value, is_ascii_digit};
 ghost use Rattle.std.specs.Int.{is_in_range};
-ghost use Rattle.std.specs.Prelude.{IfErr, IfOk, IsTrue, List, Some, is_some, length, take, ℕ, ◌+◌, ◌<◌, ◌^◌, ◌||◌, ◌≡◌, ◌≤◌};
+ghost use Rattle.std.specs.Prelude.{IfErr, IfOk, IsTrue, List, Some, is_some, length, take, ℕ, ◌+◌};
+ghost use Rattle.std.specs.Prelude.{◌<◌, ◌^◌, ◌||◌, ◌≡◌, ◌≤◌};
 ghost use Rattle.std.specs.Str.{IsUtf8};
 
 use crate::front::Front;

@@ -29,7 +29,8 @@ fn digits_end(text: &[u8]) -> usize
 /// The number that the digits write, or None where it is above the largest.
 fn value_of(digits: &[u8]) -> Option<u64>
     requires { IsTrue (list_all is_ascii_digit digits.now) }
-    ensures some { IfSome result (λ value. (value ≡ digits_value 10 digits.now) × (value ≤ LARGEST_NUMBER)) }
+    ensures some { IfSome result (λ value. (value ≡ digits_value 10 digits.now) ×
+        (value ≤ LARGEST_NUMBER)) }
     ensures none { IsNone result → LARGEST_NUMBER < digits_value 10 digits.now }
 {
     let largest = u128::from(LARGEST_NUMBER);

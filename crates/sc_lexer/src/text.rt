@@ -7,7 +7,8 @@ ghost use Rattle.sc_lexer.specs.Lexeme.{IsLexeme};
 ghost use Rattle.sc_lexer.specs.Token.{IsBefore, IsIn, lexeme_of};
 ghost use Rattle.sc_lexer.specs.declared.token.Token.{Token};
 ghost use Rattle.std.specs.List.{All, AllPairs};
-ghost use Rattle.std.specs.Prelude.{IfErr, IfOk, List, MatchResult, drop, length, ◌<◌, ◌^◌, ◌≡◌, ◌≢◌};
+ghost use Rattle.std.specs.Prelude.{IfErr, IfOk, List, MatchResult, drop, length, ◌<◌, ◌^◌, ◌≡◌};
+ghost use Rattle.std.specs.Prelude.{◌≢◌};
 ghost use Rattle.std.specs.Str.{IsUtf8};
 
 use crate::front::front_token;
@@ -57,11 +58,13 @@ pub fn lex(alloc: Global, text: &[u8]) -> Result<Vec<Token>, LexErr>
     requires { length text.now < 2 ^ 32 }
 
     ensures ok { IfOk result (λ tokens. Lexes text.now tokens.items) }
-    ensures only { IfOk result (λ tokens. (others : List Token) → Lexes text.now others → others ≡ tokens.items) }
+    ensures only { IfOk result (λ tokens. (others : List Token) → Lexes text.now others →
+        others ≡ tokens.items) }
     ensures refused { IfErr result (λ err. err ≢ LexErr.OutOfMemory → Refuses text.now err) }
 
     // What callers read the tokens by.
-    ensures lexemes { IfOk result (λ tokens. All (λ token. IsLexeme (lexeme_of text.now token)) tokens.items) }
+    ensures lexemes { IfOk result
+        (λ tokens. All (λ token. IsLexeme (lexeme_of text.now token)) tokens.items) }
     ensures in_text { IfOk result (λ tokens. All (IsIn text.now) tokens.items) }
     ensures in_order { IfOk result (λ tokens. AllPairs IsBefore tokens.items) }
 {

@@ -1,5 +1,6 @@
 //! The literals as the edges of a graph.
-ghost use Rattle.std.specs.Prelude.{◌≡◌, ◌+◌, ◌-◌, ◌^◌, ◌<◌, ◌≤◌, [], ◌∷◌, ◌++◌, length, take, IsTrue, IfOk};
+ghost use Rattle.std.specs.Prelude.{◌≡◌, ◌+◌, ◌-◌, ◌^◌, ◌<◌, ◌≤◌, [], ◌∷◌, ◌++◌, length, take};
+ghost use Rattle.std.specs.Prelude.{IsTrue, IfOk};
 ghost use Rattle.sc_order.specs.Difference.{is_literal};
 ghost use Rattle.sc_order.specs.Edges.{literal_at, IsLastFrom};
 
@@ -27,7 +28,11 @@ impl Model for Edges {
     ghost Value = { Constraints };
 
     ghost view = { λ e.
-        record { variables = length e.latest.items; capacity = e.limit; literals = e.literals.items } };
+        record {
+          variables = length e.latest.items;
+          capacity = e.limit;
+          literals = e.literals.items;
+        } };
 
     ghost invariant = { λ e. IsLinked e.literals.items e.earlier.items e.latest.items
         × HasRoom (length e.literals.items) (length e.latest.items) e.limit

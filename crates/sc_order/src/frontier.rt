@@ -1,7 +1,11 @@
 //! What a search has reached, with a heap of what waits.
-ghost use Rattle.std.specs.Prelude.{◌≡◌, ◌≢◌, ◌↔◌, ℕ, ◌+◌, ◌-◌, ◌*◌, ◌^◌, ◌<◌, ◌≤◌, length, pos, ◌<ℤ◌, ◌≤ℤ◌, slice_index, slice_set, replicate, IsTrue, IfOk, IfSome, IfNone};
+ghost use Rattle.std.specs.Prelude.{◌≡◌, ◌≢◌, ◌↔◌, ℕ, ◌+◌, ◌-◌, ◌*◌, ◌^◌, ◌<◌, ◌≤◌, length, pos};
+ghost use Rattle.std.specs.Prelude.{◌<ℤ◌, ◌≤ℤ◌, slice_index, slice_set, replicate, IsTrue, IfOk};
+ghost use Rattle.std.specs.Prelude.{IfSome, IfNone};
 ghost use Rattle.sc_order.specs.Lowering.{CanMove, Moves};
-ghost use Rattle.sc_order.specs.Reach.{unreached, reach_of, lowered_at, IsHeap, KeepsBeyond, IsAlmostHeapAbove, IsAlmostHeapBelow, JoinsWaiting, IsExplored, SettlesLowest};
+ghost use Rattle.sc_order.specs.Reach.{unreached, reach_of, lowered_at, IsHeap, KeepsBeyond};
+ghost use Rattle.sc_order.specs.Reach.{IsAlmostHeapAbove, IsAlmostHeapBelow, JoinsWaiting};
+ghost use Rattle.sc_order.specs.Reach.{IsExplored, SettlesLowest};
 
 use crate::lowering::{move_all, move_reached};
 use crate::permutation::Permutation;

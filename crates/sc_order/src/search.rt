@@ -1,11 +1,13 @@
 //! How far each variable has to be lowered.
-ghost use Rattle.std.specs.Prelude.{◌≡◌, ◌≢◌, ◌+◌, ◌-◌, ◌^◌, ◌<◌, ◌≤◌, length, pos, neg_ℤ, ◌+ℤ◌, ◌-ℤ◌, ◌≤ℤ◌, ◌<ℤ◌, IsTrue, IfSome, IfNone, replicate};
+ghost use Rattle.std.specs.Prelude.{◌≡◌, ◌≢◌, ◌+◌, ◌-◌, ◌^◌, ◌<◌, ◌≤◌, length, pos, neg_ℤ, ◌+ℤ◌};
+ghost use Rattle.std.specs.Prelude.{◌-ℤ◌, ◌≤ℤ◌, ◌<ℤ◌, IsTrue, IfSome, IfNone, replicate};
 ghost use Rattle.std.specs.Bool.{OnTrue, OnFalse};
 ghost use Rattle.sc_order.specs.Difference.{value_of, is_literal};
 ghost use Rattle.sc_order.specs.Edges.{literal_at};
 ghost use Rattle.sc_order.specs.Reach.{unreached, reach_of};
 ghost use Rattle.sc_order.specs.Potential.{Meets};
-ghost use Rattle.sc_order.specs.Search.{needed, Relaxes, Lowers, MeetsEdge, MeetsLow, MeetsHighBelow};
+ghost use Rattle.sc_order.specs.Search.{needed, Relaxes, Lowers, MeetsEdge, MeetsLow};
+ghost use Rattle.sc_order.specs.Search.{MeetsHighBelow};
 
 use crate::diff::Diff;
 use crate::edges::Edges;
@@ -105,7 +107,9 @@ pub struct Search<'a> {
 }
 
 impl Search<'_> {
-    ghost use Rattle.sc_order.specs.Search.{HasPotential, IsEdgeIn, IsRelaxingIn, MeetsListedIn, MeetsRangeIn, ClosesIn, IsBetweenIn, IsRepairedIn, IsClosedIn};
+    ghost use Rattle.sc_order.specs.Search.{HasPotential, IsEdgeIn, IsRelaxingIn, MeetsListedIn};
+    ghost use Rattle.sc_order.specs.Search.{MeetsRangeIn, ClosesIn, IsBetweenIn, IsRepairedIn};
+    ghost use Rattle.sc_order.specs.Search.{IsClosedIn};
 
     /// The literal before place `via` as an edge.
     fn listed_edge(&self, via: u32) -> Edge
@@ -156,8 +160,8 @@ impl Search<'_> {
         }
     }
 
-    /// Lowers the end of an edge from the vertex that was settled last. Says whether it would be the
-    /// tail of the goal.
+    /// Lowers the end of an edge from the vertex that was settled last. Says whether it would be
+    /// the tail of the goal.
     fn relax(&self, frontier: &mut Frontier, edge: Edge) -> bool
         requires potential { HasPotential self.now }
         requires edge { IsEdgeIn self.now edge }
@@ -205,8 +209,8 @@ impl Search<'_> {
         self.relax(frontier, edge)
     }
 
-    /// Relaxes the greatest number of the range of each vertex, from vertex 0. Says whether one would
-    /// lower the tail of the goal.
+    /// Relaxes the greatest number of the range of each vertex, from vertex 0. Says whether one
+    /// would lower the tail of the goal.
     fn relax_high(&self, frontier: &mut Frontier) -> bool
         requires potential { HasPotential self.now }
         requires relaxing { IsRelaxingIn self.now frontier.old 0 }

@@ -1,5 +1,6 @@
 //! Two theories as one.
-ghost use Rattle.std.specs.Prelude.{◌≡◌, ◌+◌, ◌-◌, ◌<◌, ◌≤◌, ◌^◌, [], ◌∷◌, ◌++◌, length, map, slice_index, take, All, IfOk};
+ghost use Rattle.std.specs.Prelude.{◌≡◌, ◌+◌, ◌-◌, ◌<◌, ◌≤◌, ◌^◌, [], ◌∷◌, ◌++◌, length, map};
+ghost use Rattle.std.specs.Prelude.{slice_index, take, All, IfOk};
 
 use sc_procedure::{LitBuf, Theory, push_within};
 use std::alloc::{AllocError, Global};
@@ -50,12 +51,15 @@ impl<A: Theory, B: Theory> Model for Pair<A, B> {
 
     ghost use Rattle.sc_pair.specs.PairSides.{IsSoundPair};
 
-    ghost view = { λ p. record { left = p.left; right = p.right; sides = p.sides.items; capacity = p.limit } };
+    ghost view = { λ p.
+        record { left = p.left; right = p.right; sides = p.sides.items; capacity = p.limit } };
 
-    ghost invariant = { λ p. IsSoundPair (A.models p.left) A.meets (A.literals p.left) (A.capacity p.left)
+    ghost invariant = { λ p. IsSoundPair (A.models p.left) A.meets (A.literals p.left)
+        (A.capacity p.left)
         (B.models p.right) B.meets (B.literals p.right) (B.capacity p.right)
         p.sides.items p.left_places.items p.right_places.items p.limit
-        (vec_capacity p.sides) (vec_capacity p.left_places) (vec_capacity p.right_places) p.core.capacity };
+        (vec_capacity p.sides) (vec_capacity p.left_places)
+        (vec_capacity p.right_places) p.core.capacity };
 }
 
 impl<A: Theory + Drop, B: Theory + Drop> Pair<A, B> {
@@ -67,7 +71,8 @@ impl<A: Theory + Drop, B: Theory + Drop> Pair<A, B> {
         requires right_empty { B.literals right ≡ [] }
         requires left_capacity { A.capacity left ≡ capacity }
         requires right_capacity { B.capacity right ≡ capacity }
-        ensures { IfOk result (λ p. p ≡ record { left = left; right = right; sides = []; capacity = capacity }) }
+        ensures { IfOk result (λ p. p
+            ≡ record { left = left; right = right; sides = []; capacity = capacity }) }
     {
         let sides = Vec::with_capacity(alloc, capacity)?;
         let left_places = Vec::with_capacity(alloc, capacity)?;
@@ -91,8 +96,10 @@ impl<A: Theory, B: Theory> Pair<A, B> {
     /// Takes the last literal back.
     fn undo_one(&mut self)
         requires { 0 < length self.old.sides }
-        ensures list { let all = in_order self.old.sides (A.literals self.old.left) (B.literals self.old.right) in
-            in_order self.new.sides (A.literals self.new.left) (B.literals self.new.right) ≡ take (length all - 1) all }
+        ensures list { let all = in_order self.old.sides (A.literals self.old.left)
+            (B.literals self.old.right) in
+            in_order self.new.sides (A.literals self.new.left) (B.literals self.new.right)
+            ≡ take (length all - 1) all }
         ensures sides { length self.new.sides + 1 ≡ length self.old.sides }
         ensures capacity { self.new.capacity ≡ self.old.capacity }
         ensures left_takes { A.takes self.new.left ≡ A.takes self.old.left }
@@ -179,7 +186,8 @@ impl<A: Theory, B: Theory> Theory for Pair<A, B> {
 
     ghost use Rattle.sc_pair.specs.PairLaw.{empty_has_pair};
 
-    ghost empty_has_model = { λ p. empty_has_pair (A.empty_has_model p.left) (B.empty_has_model p.right) };
+    ghost empty_has_model = { λ p. empty_has_pair (A.empty_has_model p.left)
+        (B.empty_has_model p.right) };
 }
 
 /// Writes the places of these numbers into `out`, in place of what it held.

@@ -13,7 +13,8 @@ use sc_lexer::one_token_list;
 /// A text spells at most one specification and at most one script, offsets included.
 pub fn one_tree()
     ensures spec { (text : List ℕ) (s t : Spec) → IsSpecText text s → IsSpecText text t → s ≡ t }
-    ensures script { (text : List ℕ) (s t : Script) → IsScriptText text s → IsScriptText text t → s ≡ t }
+    ensures script { (text : List ℕ) (s t : Script) → IsScriptText text s → IsScriptText text t →
+        s ≡ t }
 {
     one_token_list();
 }

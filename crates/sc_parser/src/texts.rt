@@ -43,8 +43,10 @@ fn script_of(alloc: Global, mut cursor: Cursor<'_>) -> Result<Script, SyntaxErr>
 pub fn parse_spec(alloc: Global, text: &[u8]) -> Result<Spec, SyntaxErr>
     requires { length text.now < 2 ^ 32 }
     ensures ok { IfOk result (λ found. IsSpecText text.now found) }
-    ensures only { IfOk result (λ found. (other : Spec) → IsSpecText text.now other → other ≡ found) }
-    ensures not_built { IsErrOf result SyntaxErr.NotBuilt → (found : Spec) → ¬ (IsSpecText text.now found) }
+    ensures only { IfOk result (λ found. (other : Spec) → IsSpecText text.now other →
+        other ≡ found) }
+    ensures not_built { IsErrOf result SyntaxErr.NotBuilt → (found : Spec) →
+        ¬ (IsSpecText text.now found) }
 {
     let tokens = lex(alloc, text)?;
     spec_of(alloc, Cursor::new(text, tokens.as_slice()))
@@ -57,8 +59,10 @@ pub fn parse_spec(alloc: Global, text: &[u8]) -> Result<Spec, SyntaxErr>
 pub fn parse_script(alloc: Global, text: &[u8]) -> Result<Script, SyntaxErr>
     requires { length text.now < 2 ^ 32 }
     ensures ok { IfOk result (λ found. IsScriptText text.now found) }
-    ensures only { IfOk result (λ found. (other : Script) → IsScriptText text.now other → other ≡ found) }
-    ensures not_built { IsErrOf result SyntaxErr.NotBuilt → (found : Script) → ¬ (IsScriptText text.now found) }
+    ensures only { IfOk result (λ found. (other : Script) → IsScriptText text.now other →
+        other ≡ found) }
+    ensures not_built { IsErrOf result SyntaxErr.NotBuilt → (found : Script) →
+        ¬ (IsScriptText text.now found) }
 {
     let tokens = lex(alloc, text)?;
     script_of(alloc, Cursor::new(text, tokens.as_slice()))

@@ -16,8 +16,10 @@ pub fn probe<T: Theory>(theory: &mut T, literals: &[T::Lit], core: &mut LitBuf<u
     requires taken { All (λ l. IsTrue (T.takes theory.old l)) literals.now }
     requires room { length (T.literals theory.old) + length literals.now ≤ T.capacity theory.old }
     requires core_room { length (T.literals theory.old) + length literals.now ≤ core.old.capacity }
-    ensures verdict { let all = T.literals theory.old ++ literals.now in IsTrue result ↔ HasModel (T.models theory.old) T.meets all }
-    ensures core { let all = T.literals theory.old ++ literals.now in OnFalse result (IsCore (T.models theory.old) T.meets all core.new.items) }
+    ensures verdict { let all = T.literals theory.old ++ literals.now in
+        IsTrue result ↔ HasModel (T.models theory.old) T.meets all }
+    ensures core { let all = T.literals theory.old ++ literals.now in
+        OnFalse result (IsCore (T.models theory.old) T.meets all core.new.items) }
     ensures untouched { OnTrue result (core.new ≡ core.old) }
     ensures list { T.literals theory.new ≡ T.literals theory.old }
     ensures capacity { T.capacity theory.new ≡ T.capacity theory.old }

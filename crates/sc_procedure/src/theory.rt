@@ -1,5 +1,6 @@
 //! The trait that each decision procedure meets.
-ghost use Rattle.std.specs.Prelude.{◌≡◌, ℕ, ◌-◌, ◌<◌, ◌≤◌, ◌↔◌, Bool, List, [], ◌∷◌, ◌++◌, length, take, IsTrue, IfOk};
+ghost use Rattle.std.specs.Prelude.{◌≡◌, ℕ, ◌-◌, ◌<◌, ◌≤◌, ◌↔◌, Bool, List, [], ◌∷◌, ◌++◌, length};
+ghost use Rattle.std.specs.Prelude.{take, IsTrue, IfOk};
 ghost use Rattle.sc_procedure.specs.Models.{IsModelOf, HasModel, IsCore};
 
 use crate::lit_buf::LitBuf;
@@ -48,7 +49,8 @@ pub trait Theory {
     /// Takes the last `n` literals back.
     fn undo(&mut self, n: usize)
         requires { n ≤ length (literals self.old) }
-        ensures list { literals self.new ≡ take (length (literals self.old) - n) (literals self.old) }
+        ensures list { literals self.new
+            ≡ take (length (literals self.old) - n) (literals self.old) }
         ensures capacity { capacity self.new ≡ capacity self.old }
         ensures takes { takes self.new ≡ takes self.old }
         ensures models { models self.new ≡ models self.old };

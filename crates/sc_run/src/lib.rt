@@ -1,8 +1,8 @@
 //! The program as one call.
 //!
 //! `run` answers the words of the command line over the objects that it is handed: a shelf of files
-//! and a sink for the report. It goes through stages: the words, each file in turn, and the check of
-//! the two trees. The first stage that refuses decides, else the outcome of the check.
+//! and a sink for the report. It goes through stages: the words, each file in turn, and the check
+//! of the two trees. The first stage that refuses decides, else the outcome of the check.
 //!
 //! | module | holds |
 //! |---|---|

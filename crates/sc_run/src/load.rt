@@ -1,6 +1,7 @@
 //! The files that the words name, as trees.
 
-ghost use Rattle.std.specs.Prelude.{◌≡◌, ◌<◌, ◌≤◌, ◌^◌, ℕ, List, IfOk, IsErrOf, MatchResult, Err, Ok, length};
+ghost use Rattle.std.specs.Prelude.{◌≡◌, ◌<◌, ◌≤◌, ◌^◌, ℕ, List, IfOk, IsErrOf, MatchResult, Err};
+ghost use Rattle.std.specs.Prelude.{Ok, length};
 ghost use Rattle.sc_ast.specs.Texts.{IsSpecText, IsScriptText};
 ghost use Rattle.sc_flow.specs.Outside.{IsRead};
 ghost use Rattle.sc_run.specs.Loads.{Fetches, Loads, Reads};

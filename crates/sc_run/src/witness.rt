@@ -3,7 +3,8 @@
 ghost use Rattle.std.specs.Prelude.{◌≡◌, ◌++◌, ◌∷◌, [], map, codes, IfOk, OnOk};
 ghost use Rattle.std.specs.List.{concat};
 ghost use Rattle.sc_check.specs.Outcome.{obligation_of};
-ghost use Rattle.sc_check.specs.Witness.{plain_value, plain_record, table_of_one, empty_table, base_with, witness_of};
+ghost use Rattle.sc_check.specs.Witness.{plain_value, plain_record, table_of_one, empty_table};
+ghost use Rattle.sc_check.specs.Witness.{base_with, witness_of};
 ghost use Rattle.sc_run.specs.Report as spec;
 
 use crate::pieces::push_pieces;

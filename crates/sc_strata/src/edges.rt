@@ -1,6 +1,7 @@
 //! The edges of a formula, by a walk over its tree.
 
-ghost use Rattle.std.specs.Prelude.{◌≡◌, ◌∷◌, [], ◌++◌, ◌+◌, ◌<◌, ◌≤◌, ℕ, true, take, map, Some, slice_get, IfOk, OnOk, length};
+ghost use Rattle.std.specs.Prelude.{◌≡◌, ◌∷◌, [], ◌++◌, ◌+◌, ◌<◌, ◌≤◌, ℕ, true, take, map, Some};
+ghost use Rattle.std.specs.Prelude.{slice_get, IfOk, OnOk, length};
 ghost use Rattle.sc_formula.specs.Nodes.{IsTerm, IsFormula, term_of, formula_of};
 ghost use Rattle.sc_formula.specs.declared.node.Node.{Node as AnyNode};
 ghost use Rattle.sc_strata.specs.SortGraph.{term_edges, edges, edges_of, has_items};
@@ -38,7 +39,9 @@ impl Walk {
         ensures pending { self.new.pending.items ≡ self.old.pending.items }
         ensures dependent { self.new.dependent.items ≡ self.old.dependent.items }
         ensures above { self.new.above.items ≡ self.old.above.items }
-        ensures edges { OnOk result (self.new.edges.items ≡ self.old.edges.items ++ term_edges self.old.dependent.items signature.now (term_of arena.now id)) }
+        ensures edges { OnOk result (self.new.edges.items
+            ≡ self.old.edges.items
+            ++ term_edges self.old.dependent.items signature.now (term_of arena.now id)) }
     {
         add_term_edges(
             arena,
@@ -51,7 +54,8 @@ impl Walk {
 
     /// Goes on to a part that no further quantifier stands above.
     fn enter(&mut self, whole: Pending, part: u32) -> Result<(), AllocError>
-        ensures pending { OnOk result (self.new.pending.items ≡ self.old.pending.items ++ record whole { id = part } ∷ []) }
+        ensures pending { OnOk result (self.new.pending.items
+            ≡ self.old.pending.items ++ record whole { id = part } ∷ []) }
         ensures dependent { self.new.dependent.items ≡ self.old.dependent.items }
         ensures above { self.new.above.items ≡ self.old.above.items }
         ensures edges { self.new.edges.items ≡ self.old.edges.items }
@@ -62,7 +66,9 @@ impl Walk {
 
     /// Goes on to both parts.
     fn enter_both(&mut self, whole: Pending, left: u32, right: u32) -> Result<(), AllocError>
-        ensures pending { OnOk result (self.new.pending.items ≡ self.old.pending.items ++ record whole { id = right } ∷ record whole { id = left } ∷ []) }
+        ensures pending { OnOk result (self.new.pending.items
+            ≡ self.old.pending.items
+            ++ record whole { id = right } ∷ record whole { id = left } ∷ []) }
         ensures dependent { self.new.dependent.items ≡ self.old.dependent.items }
         ensures above { self.new.above.items ≡ self.old.above.items }
         ensures edges { self.new.edges.items ≡ self.old.edges.items }
@@ -73,10 +79,19 @@ impl Walk {
 
     /// Goes on below an `exists`, with an edge from each `forall` above.
     fn enter_exists(&mut self, sort: u32, body: u32) -> Result<(), AllocError>
-        ensures pending { OnOk result (self.new.pending.items ≡ self.old.pending.items ++ record { id = body; quantifiers = length self.old.dependent.items + 1; universals = length self.old.above.items } ∷ []) }
-        ensures dependent { OnOk result (self.new.dependent.items ≡ self.old.dependent.items ++ has_items self.old.above.items ∷ []) }
+        ensures pending { OnOk result (self.new.pending.items
+            ≡ self.old.pending.items
+            ++ record {
+              id = body;
+              quantifiers = length self.old.dependent.items
+                  + 1;
+              universals = length self.old.above.items;
+            } ∷ []) }
+        ensures dependent { OnOk result (self.new.dependent.items
+            ≡ self.old.dependent.items ++ has_items self.old.above.items ∷ []) }
         ensures above { self.new.above.items ≡ self.old.above.items }
-        ensures edges { OnOk result (self.new.edges.items ≡ self.old.edges.items ++ map (λ from. (from, sort)) self.old.above.items) }
+        ensures edges { OnOk result (self.new.edges.items
+            ≡ self.old.edges.items ++ map (λ from. (from, sort)) self.old.above.items) }
     {
         add_edges(self.above.as_slice(), sort, &mut self.edges)?;
         self.dependent.push(!self.above.is_empty())?;
@@ -90,8 +105,16 @@ impl Walk {
 
     /// Goes on below a `forall`.
     fn enter_forall(&mut self, sort: u32, body: u32) -> Result<(), AllocError>
-        ensures pending { OnOk result (self.new.pending.items ≡ self.old.pending.items ++ record { id = body; quantifiers = length self.old.dependent.items + 1; universals = length self.old.above.items + 1 } ∷ []) }
-        ensures dependent { OnOk result (self.new.dependent.items ≡ self.old.dependent.items ++ true ∷ []) }
+        ensures pending { OnOk result (self.new.pending.items
+            ≡ self.old.pending.items
+            ++ record {
+              id = body;
+              quantifiers = length self.old.dependent.items
+                  + 1;
+              universals = length self.old.above.items + 1;
+            } ∷ []) }
+        ensures dependent { OnOk result (self.new.dependent.items
+            ≡ self.old.dependent.items ++ true ∷ []) }
         ensures above { OnOk result (self.new.above.items ≡ self.old.above.items ++ sort ∷ []) }
         ensures edges { self.new.edges.items ≡ self.old.edges.items }
     {
@@ -153,7 +176,8 @@ pub(crate) fn edges_of(
     id: u32,
 ) -> Result<Vec<(u32, u32)>, AllocError>
     requires { IsFormula arena.now id }
-    ensures { IfOk result (λ found. found.items ≡ edges_of signature.now (formula_of arena.now id)) }
+    ensures { IfOk result (λ found. found.items
+        ≡ edges_of signature.now (formula_of arena.now id)) }
 {
     let _nodes = arena.len();
     let mut walk = Walk {

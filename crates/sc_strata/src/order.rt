@@ -1,7 +1,9 @@
 //! An order of a graph, or a cycle, by a search backwards along the edges.
 
-ghost use Rattle.std.specs.Prelude.{◌≡◌, ◌≢◌, ◌+◌, ◌<◌, ◌≤◌, ℕ, [], ◌∷◌, ◌++◌, length, Contains, slice_set, if◌then◌else◌, MatchOption, IfOk, OnOk, IsTrue, ◌↔◌};
-ghost use Rattle.sc_strata.specs.Search.{mark_at, is_done_mark, LeadsOn, AreEdgesBelow, IsSearch, IsSorted, IsCycleFrom, IsBegun, work};
+ghost use Rattle.std.specs.Prelude.{◌≡◌, ◌≢◌, ◌+◌, ◌<◌, ◌≤◌, ℕ, [], ◌∷◌, ◌++◌, length, Contains};
+ghost use Rattle.std.specs.Prelude.{slice_set, if◌then◌else◌, MatchOption, IfOk, OnOk, IsTrue, ◌↔◌};
+ghost use Rattle.sc_strata.specs.Search.{mark_at, is_done_mark, LeadsOn, AreEdgesBelow, IsSearch};
+ghost use Rattle.sc_strata.specs.Search.{IsSorted, IsCycleFrom, IsBegun, work};
 
 use std::alloc::{AllocError, Global};
 
@@ -26,7 +28,9 @@ pub(crate) struct Search {
 /// A vertex that is not done and leads to this one, if there is any.
 fn unfinished(graph: &[(u32, u32)], marks: &[Mark], to: u32) -> Option<u32>
     requires { AreEdgesBelow graph.now (length marks.now) }
-    ensures { MatchOption result ((a : ℕ) → Contains graph.now (a, to) → mark_at marks.now a ≡ Mark.Done) (λ a. Contains graph.now (a, to) × (mark_at marks.now a ≢ Mark.Done)) }
+    ensures { MatchOption result ((a : ℕ) → Contains graph.now (a, to) →
+        mark_at marks.now a ≡ Mark.Done) (λ a. Contains graph.now (a, to) ×
+        (mark_at marks.now a ≢ Mark.Done)) }
 {
     for edge in graph {
         if edge.1 == to && !is_done(marks, edge.0) {
@@ -55,8 +59,12 @@ impl Search {
     fn finish(&mut self, v: u32) -> Result<(), AllocError>
         requires { v < length self.old.marks.items }
         ensures path { self.new.path.items ≡ self.old.path.items }
-        ensures marks { OnOk result (self.new.marks.items ≡ slice_set self.old.marks.items v Mark.Done) }
-        ensures order { OnOk result (self.new.order.items ≡ (if is_done_mark (mark_at self.old.marks.items v) then self.old.order.items else self.old.order.items ++ v ∷ [])) }
+        ensures marks { OnOk result (self.new.marks.items
+            ≡ slice_set self.old.marks.items v Mark.Done) }
+        ensures order { OnOk result (self.new.order.items
+            ≡ (if is_done_mark
+            (mark_at self.old.marks.items v) then self.old.order.items else self.old.order.items
+            ++ v ∷ [])) }
     {
         if !is_done(self.marks.as_slice(), v) {
             self.order.push(v)?;
@@ -69,7 +77,8 @@ impl Search {
     fn enter(&mut self, v: u32) -> Result<(), AllocError>
         requires { v < length self.old.marks.items }
         ensures path { OnOk result (self.new.path.items ≡ self.old.path.items ++ v ∷ []) }
-        ensures marks { OnOk result (self.new.marks.items ≡ slice_set self.old.marks.items v Mark.Open) }
+        ensures marks { OnOk result (self.new.marks.items
+            ≡ slice_set self.old.marks.items v Mark.Open) }
         ensures order { self.new.order.items ≡ self.old.order.items }
     {
         self.path.push(v)?;
@@ -96,8 +105,11 @@ impl Search {
         requires below { AreEdgesBelow graph.now (length self.old.marks.items) }
         requires search { IsSearch graph.now (length self.old.marks.items) self.old }
         ensures search { OnOk result (IsSearch graph.now (length self.old.marks.items) self.new) }
-        ensures end { IfOk result (λ found. MatchOption found (self.new.path.items ≡ []) (λ v. Contains self.new.path.items v × LeadsOn graph.now self.new.path.items v)) }
-        ensures done { IfOk result (λ found. (v : ℕ) → mark_at self.old.marks.items v ≢ Mark.Unseen → mark_at self.new.marks.items v ≢ Mark.Unseen) }
+        ensures end { IfOk result (λ found. MatchOption found (self.new.path.items
+            ≡ []) (λ v. Contains self.new.path.items v × LeadsOn graph.now self.new.path.items v)) }
+        ensures done { IfOk result (λ found. (v : ℕ) →
+            mark_at self.old.marks.items v ≢ Mark.Unseen →
+            mark_at self.new.marks.items v ≢ Mark.Unseen) }
     {
         'steps: while let Some(v) = self.path.pop() {
             match unfinished(graph, self.marks.as_slice(), v) {

@@ -18,7 +18,8 @@ pub(crate) fn add_term_edges(
     edges: &mut Vec<(u32, u32)>,
 ) -> Result<(), AllocError>
     requires { IsTerm arena.now id }
-    ensures { OnOk result (edges.new.items ≡ edges.old.items ++ term_edges dependent.now signature.now (term_of arena.now id)) }
+    ensures { OnOk result (edges.new.items
+        ≡ edges.old.items ++ term_edges dependent.now signature.now (term_of arena.now id)) }
 {
     if is_dependent(arena, dependent, id) {
         add_function_edges(arena, signature, dependent, id, edges)
@@ -37,7 +38,8 @@ fn add_function_edges(
 ) -> Result<(), AllocError>
     requires term { IsTerm arena.now id }
     requires dependent { is_dependent dependent.now (term_of arena.now id) ≡ true }
-    ensures { OnOk result (edges.new.items ≡ edges.old.items ++ term_edges dependent.now signature.now (term_of arena.now id)) }
+    ensures { OnOk result (edges.new.items
+        ≡ edges.old.items ++ term_edges dependent.now signature.now (term_of arena.now id)) }
 {
     let mut at = id;
     while let Node::App(f, t) = arena.node(at) {
@@ -49,7 +51,8 @@ fn add_function_edges(
 
 /// Adds the edge of a function, if it gives elements.
 fn add_edge(signature: &Signature, f: u32, edges: &mut Vec<(u32, u32)>) -> Result<(), AllocError>
-    ensures { OnOk result (edges.new.items ≡ edges.old.items ++ function_edge (slice_get signature.now.funs f)) }
+    ensures { OnOk result (edges.new.items
+        ≡ edges.old.items ++ function_edge (slice_get signature.now.funs f)) }
 {
     match signature.funs.get(f as usize) {
         Some(function) => match function.to {

@@ -9,8 +9,8 @@
 //! | `commands` | `Script` with its commands |
 //!
 //! Contracts see a tree as plain data: a list as its items, a name as its bytes. Each tree keeps
-//! the byte offset of its first token, and each name its own. `specs/Grammar.antt` says which tokens
-//! spell a tree.
+//! the byte offset of its first token, and each name its own. `specs/Grammar.antt` says which
+//! tokens spell a tree.
 #![tactic(auto)]
 
 mod commands;

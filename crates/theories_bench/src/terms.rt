@@ -11,7 +11,8 @@ pub const TERMS: usize = 400;
 
 /// So many literals of terms below `TERMS`, in a sequence that looks random.
 pub fn equalities(alloc: Global, count: usize) -> Result<Vec<EqualityLit>, AllocError>
-    ensures { IfOk result (λ ls. (length ls.items ≡ count) × All (λ l. IsTrue (takes_literal 400 l)) ls.items) }
+    ensures { IfOk result (λ ls. (length ls.items ≡ count) ×
+        All (λ l. IsTrue (takes_literal 400 l)) ls.items) }
 {
     let mut random = 1;
     let mut literals = Vec::with_capacity(alloc, count)?;

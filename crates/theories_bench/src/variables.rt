@@ -11,7 +11,8 @@ pub const VARIABLES: usize = 400;
 
 /// So many literals of variables below `VARIABLES`, in a sequence that looks random.
 pub fn differences(alloc: Global, count: usize) -> Result<Vec<Diff>, AllocError>
-    ensures { IfOk result (λ ls. (length ls.items ≡ count) × All (λ l. IsTrue (is_literal 400 l)) ls.items) }
+    ensures { IfOk result (λ ls. (length ls.items ≡ count) ×
+        All (λ l. IsTrue (is_literal 400 l)) ls.items) }
 {
     let mut random = 1;
     let mut literals = Vec::with_capacity(alloc, count)?;

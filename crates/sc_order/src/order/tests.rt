@@ -39,7 +39,8 @@ fn literal(x: u32, y: u32, c: i128) -> Option<Diff>
     }
 }
 
-/// Asserts a literal. Where there is no model any more, the literal is taken back after the conflict.
+/// Asserts a literal. Where there is no model any more, the literal is taken back after the
+/// conflict.
 fn ask<T: Theory>(theory: &mut T, core: &mut LitBuf<u32>, l: T::Lit) -> bool
     requires has_model { HasModel (T.models theory.old) T.meets (T.literals theory.old) }
     requires room { length (T.literals theory.old) < T.capacity theory.old }
@@ -59,7 +60,8 @@ fn ask<T: Theory>(theory: &mut T, core: &mut LitBuf<u32>, l: T::Lit) -> bool
     false
 }
 
-/// Asserts `x - y <= c`. Says whether the literals still have a model; if not, this one is taken back.
+/// Asserts `x - y <= c`. Says whether the literals still have a model; if not, this one is taken
+/// back.
 fn ask_row(order: &mut Order, core: &mut LitBuf<u32>, x: u32, y: u32, c: i128) -> bool
     requires has_model { HasModel (is_assignment order.old.variables) meets order.old.literals }
     requires takes { is_literal order.old.variables ≡ is_literal VARIABLES }
