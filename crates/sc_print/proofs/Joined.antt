@@ -1,5 +1,5 @@
 -- What the parts of a tree spell, level by level.
-use Rattle.std.proofs.Common.{◌≡◌, ◌≢◌, ◌<◌, arith, ℕ, Bool, true, false, leb, eqb, cond, List, [], ◌∷◌, ◌++◌, map, refl, sym, ◌∙◌, ap, append_assoc, codes}
+use Rattle.std.proofs.Common.{◌≡◌, ◌≢◌, ◌<◌, arith, ℕ, Bool, true, false, leb, eqb, List, [], ◌∷◌, ◌++◌, map, refl, sym, ◌∙◌, ap, append_assoc, codes}
 use Rattle.sc_tree.specs.declared.named.Named.{Named}
 use Rattle.sc_tree.specs.declared.exprs.CmpOp.{CmpOp}
 use Rattle.sc_tree.specs.declared.exprs.Expr.{Expr}

@@ -1,5 +1,6 @@
 -- The spellings of a list, as a loop writes them.
-use Rattle.std.proofs.Common.{zero, suc, ◌≡◌, ◌<◌, ◌≤◌, ℕ, ◌+◌, List, [], ◌∷◌, ◌++◌, map, length, drop, get_or, refl, sym, ◌∙◌, ap, subst, arith, append_assoc, append-nil, drop-cons, add-one}
+use Rattle.std.proofs.Common.{zero, suc, ◌≡◌, ◌<◌, ◌≤◌, ℕ, ◌+◌, List, [], ◌∷◌, ◌++◌, map, length, drop, get_or, refl, sym, ◌∙◌, ap, subst, arith, append_assoc, append-nil}
+use Rattle.std.specs.List.{flat_map}
 use Rattle.sc_lexer.specs.declared.token.TokenKind.TheVariants as k
 use Rattle.sc_print.specs.Exprs.{commas, joined}
 use Rattle.sc_print.specs.Marks.{Mark, sign, sp, text_of_marks}
@@ -41,3 +42,25 @@ commas_step f (y ∷ xs) zero x before out whole within is w =
 commas_step f (y ∷ xs) (suc i) x before out whole within is w =
     let same : suc (i + 1) ≡ suc i + 1 = omega arith in
     subst (λ n. IsWriting f (drop n (y ∷ xs)) (text_of_marks (sign k.Comma ∷ sp ∷ [])) ((out ++ before) ++ text_of_marks (f x)) whole) same (commas_step f xs i x before out whole (omega arith) is w)
+
+-- So far `out` is written, and with what is left it will be `whole`.
+pub record AreLeft {A : Type 0} (f : A → List ℕ) (left : List A) (out whole : List ℕ) : Type 0 where
+  pub goes_on : out ++ flat_map f left ≡ whole
+
+pub lines_begin : {A : Type 0} (f : A → List ℕ) (xs : List A) (out : List ℕ) → AreLeft f xs out (out ++ flat_map f xs)
+lines_begin f xs out = record { goes_on = refl }
+
+pub lines_done : {A : Type 0} (f : A → List ℕ) (xs : List A) (i : ℕ) (out whole : List ℕ) → length xs ≤ i → AreLeft f (drop i xs) out whole → out ≡ whole
+lines_done f [] zero out whole over w = sym (append-nil out) ∙ w.goes_on
+lines_done f [] (suc i) out whole over w = sym (append-nil out) ∙ w.goes_on
+lines_done f (x ∷ xs) zero out whole over w = absurd (omega arith)
+lines_done f (x ∷ xs) (suc i) out whole over w = lines_done f xs i out whole (omega arith) w
+
+pub lines_step : {A : Type 0} (f : A → List ℕ) (xs : List A) (i : ℕ) (x : A) (out whole : List ℕ) → i < length xs → x ≡ get_or xs i x
+    → AreLeft f (drop i xs) out whole → AreLeft f (drop (i + 1) xs) (out ++ f x) whole
+lines_step f [] i x out whole within is w = absurd (omega arith)
+lines_step f (y ∷ xs) zero x out whole within is w =
+    record { goes_on = append_assoc out (f x) (flat_map f xs) ∙ ap (λ z. out ++ (f z ++ flat_map f xs)) is ∙ w.goes_on }
+lines_step f (y ∷ xs) (suc i) x out whole within is w =
+    let same : suc (i + 1) ≡ suc i + 1 = omega arith in
+    subst (λ n. AreLeft f (drop n (y ∷ xs)) (out ++ f x) whole) same (lines_step f xs i x out whole (omega arith) is w)

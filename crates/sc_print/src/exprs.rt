@@ -4,7 +4,7 @@ ghost use Rattle.std.specs.Prelude.{◌≡◌, ◌++◌, OnOk, map};
 ghost use Rattle.sc_print.specs.Exprs.{at_least, between, cmp_sign, commas, container, filter_sign, spelled_expr, spelled_filter, spelled_item, spelled_set};
 ghost use Rattle.sc_print.specs.Marks.{text_of_marks};
 
-use crate::out::Out;
+use crate::printer::Printer;
 use sc_tree::{CmpOp, Expr, Filter, FilterOp, Item, SetExpr};
 use std::alloc::AllocError;
 
@@ -65,7 +65,7 @@ fn filter_sign(op: FilterOp) -> &'static [u8]
     }
 }
 
-impl Out {
+impl Printer {
     /// Writes an expression, in parentheses unless it holds together so tightly.
     #[cycle(print)]
     fn expr_within(&mut self, least: u32, e: &Expr) -> Result<(), AllocError>

@@ -2,13 +2,13 @@
 //!
 //! | module | holds |
 //! |---|---|
-//! | `out` | `Out`, a text that grows |
+//! | `printer` | `Printer`, a text that grows |
 //! | `exprs` | the spelling of expressions and sets |
 //!
 //! `specs/` says how each tree is spelled: as lexemes and the blanks between them.
 #![tactic(auto)]
 
 mod exprs;
-mod out;
+mod printer;
 
-pub use out::Out;
+pub use printer::Printer;

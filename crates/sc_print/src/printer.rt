@@ -9,24 +9,24 @@ use std::marker::Model;
 
 /// A text that grows at its end. Contracts see its bytes.
 #[derive(Drop)]
-pub struct Out {
+pub struct Printer {
     bytes: Vec<u8>,
 }
 
-impl Model for Out {
+impl Model for Printer {
     ghost use Rattle.std.specs.Prelude.{ℕ, List};
 
     ghost Value = { List ℕ };
 
-    ghost view = { λ out. out.bytes.items };
+    ghost view = { λ printer. printer.bytes.items };
 }
 
-impl Out {
+impl Printer {
     /// The empty text.
-    pub fn new(alloc: Global) -> Out
+    pub fn new(alloc: Global) -> Printer
         ensures { result ≡ [] }
     {
-        Out {
+        Printer {
             bytes: Vec::new(alloc),
         }
     }
