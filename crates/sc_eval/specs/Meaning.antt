@@ -3,10 +3,10 @@ use Rattle.std.specs.Prelude.{ℕ, ℤ, pos, Bool, true, false, not, ◌&&◌, �
 use Rattle.std.specs.List.{list_any}
 use Rattle.std.specs.Ordering.{int_eq}
 use Rattle.std.specs.Str.{bytes_eq}
-use Rattle.sc_schema.specs.declared.signs.CmpOp.{CmpOp}
-use Rattle.sc_schema.specs.declared.signs.CmpOp.TheVariants.{Eq, Ne, Lt, Le, Gt, Ge}
-use Rattle.sc_schema.specs.declared.signs.FilterOp.{FilterOp}
-use Rattle.sc_schema.specs.declared.signs.FilterOp.TheVariants.{Cmp, Has}
+use Rattle.sc_tree.specs.declared.exprs.CmpOp.{CmpOp}
+use Rattle.sc_tree.specs.declared.exprs.CmpOp.TheVariants.{Eq, Ne, Lt, Le, Gt, Ge}
+use Rattle.sc_tree.specs.declared.exprs.FilterOp.{FilterOp}
+use Rattle.sc_tree.specs.declared.exprs.FilterOp.TheVariants.{Cmp, Has}
 use Rattle.sc_schema.specs.Trees.{Expr, flag, num, str, var, nothing, just, get, equal, iff, less, within, negation, both, either, if_expr, match_expr, SetExpr, everyone, nobody, listed, union, minus, find, path, mapped, flat_mapped, if_set, match_set, Items, no_items, static_item, record_item, Filters, no_filters, filter_and, Policy, to_all, to_none, by_record}
 use Rattle.sc_data.specs.declared.principals.Principal.{Principal}
 use Rattle.sc_data.specs.declared.principals.Principal.TheVariants.{Static, Rec}

@@ -2,8 +2,8 @@
 use Rattle.std.specs.Prelude.{◌≡◌, ℕ, pos, true, false, List, [], ◌∷◌, codes}
 use Rattle.sc_schema.specs.declared.types.TBase.TheVariants as base
 use Rattle.sc_schema.specs.declared.types.TTy.TheVariants.{Plain}
-use Rattle.sc_schema.specs.declared.signs.CmpOp.TheVariants.{Eq, Gt}
-use Rattle.sc_schema.specs.declared.signs.FilterOp.TheVariants.{Cmp}
+use Rattle.sc_tree.specs.declared.exprs.CmpOp.TheVariants.{Eq, Gt}
+use Rattle.sc_tree.specs.declared.exprs.FilterOp.TheVariants.{Cmp}
 use Rattle.sc_schema.specs.Trees.{Expr, flag, num, var, get, within, if_expr, SetExpr, everyone, listed, minus, find, mapped, no_items, record_item, no_filters, filter_and, to_none, by_record, Init, plain, of_set}
 use Rattle.sc_schema.specs.Commands.{add_field, remove_field}
 use Rattle.sc_data.specs.declared.principals.Principal.{Principal}

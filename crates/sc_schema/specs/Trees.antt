@@ -1,8 +1,8 @@
 -- Typed expressions, sets, policies and initialisers. A variable is its depth: how many stand outside it. A node keeps the name of the
 -- variable that it binds or is, and the sign of the comparison that it was written as; the meaning reads neither.
 use Rattle.std.specs.Prelude.{ℕ, ℤ, Bool, List}
-use Rattle.sc_schema.specs.declared.signs.CmpOp.{CmpOp}
-use Rattle.sc_schema.specs.declared.signs.FilterOp.{FilterOp}
+use Rattle.sc_tree.specs.declared.exprs.CmpOp.{CmpOp}
+use Rattle.sc_tree.specs.declared.exprs.FilterOp.{FilterOp}
 
 -- a name, as its bytes
 abbrev pub Name : Type 0

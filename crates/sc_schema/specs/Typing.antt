@@ -7,10 +7,10 @@ use Rattle.sc_schema.specs.declared.types.TBase.{TBase}
 use Rattle.sc_schema.specs.declared.types.TBase.TheVariants as base
 use Rattle.sc_schema.specs.declared.types.TTy.{TTy}
 use Rattle.sc_schema.specs.declared.types.TTy.TheVariants.{Plain, Set, Opt}
-use Rattle.sc_schema.specs.declared.signs.CmpOp.{CmpOp}
-use Rattle.sc_schema.specs.declared.signs.CmpOp.TheVariants.{Eq, Ne, Lt, Le, Gt, Ge}
-use Rattle.sc_schema.specs.declared.signs.FilterOp.{FilterOp}
-use Rattle.sc_schema.specs.declared.signs.FilterOp.TheVariants.{Cmp, Has}
+use Rattle.sc_tree.specs.declared.exprs.CmpOp.{CmpOp}
+use Rattle.sc_tree.specs.declared.exprs.CmpOp.TheVariants.{Eq, Ne, Lt, Le, Gt, Ge}
+use Rattle.sc_tree.specs.declared.exprs.FilterOp.{FilterOp}
+use Rattle.sc_tree.specs.declared.exprs.FilterOp.TheVariants.{Cmp, Has}
 use Rattle.sc_schema.specs.Trees.{Expr, flag, num, str, var, nothing, just, get, equal, iff, less, within, negation, both, either, if_expr, match_expr, SetExpr, everyone, nobody, listed, union, minus, find, path, mapped, flat_mapped, if_set, match_set, Items, no_items, static_item, record_item, Filters, no_filters, filter_and, Policy, to_all, to_none, by_record, Init, plain, of_set}
 use Rattle.sc_schema.specs.Schema.{FieldInfo, ModelInfo, Schema, model_of, static_of, type_of, is_principal_model}
 

@@ -1,7 +1,7 @@
 -- The uses of fields in an initialiser: each access of a field, and the field of each filter.
 use Rattle.std.specs.Prelude.{ℕ, List, [], ◌∷◌, ◌++◌}
-use Rattle.sc_schema.specs.declared.signs.CmpOp.{CmpOp}
-use Rattle.sc_schema.specs.declared.signs.CmpOp.TheVariants.{Eq, Ne, Lt, Le, Gt, Ge}
+use Rattle.sc_tree.specs.declared.exprs.CmpOp.{CmpOp}
+use Rattle.sc_tree.specs.declared.exprs.CmpOp.TheVariants.{Eq, Ne, Lt, Le, Gt, Ge}
 use Rattle.sc_schema.specs.Trees.{Expr, flag, num, str, var, nothing, just, get, equal, iff, less, within, negation, both, either, if_expr, match_expr, SetExpr, everyone, nobody, listed, union, minus, find, path, mapped, flat_mapped, if_set, match_set, Items, no_items, static_item, record_item, Filters, no_filters, filter_and, Init, plain, of_set}
 
 -- a field of a model

@@ -3,7 +3,6 @@
 //! | module | holds |
 //! |---|---|
 //! | `types` | the numbers of statics, models and fields, and the types of values |
-//! | `signs` | the signs of comparisons and filters |
 //! | `rights` | the rights, what they are on, and the kinds of principals |
 //! | `trees` | expressions, sets, policies and initialisers |
 //! | `schemas` | schemas with their statics, models and fields |
@@ -20,7 +19,6 @@ mod commands;
 mod copies;
 mod rights;
 mod schemas;
-mod signs;
 #[cfg(test)]
 mod tests;
 mod trees;
@@ -29,6 +27,5 @@ mod types;
 pub use commands::{TCommand, TScript};
 pub use rights::{Kind, Right, Target};
 pub use schemas::{FieldInfo, ModelInfo, Schema, StaticInfo};
-pub use signs::{CmpOp, FilterOp};
 pub use trees::{TExpr, TFilter, TInit, TItem, TPolicy, TSet};
 pub use types::{FieldNo, ModelNo, StaticNo, TBase, TTy};

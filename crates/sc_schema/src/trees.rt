@@ -1,8 +1,9 @@
 //! Typed expressions, sets, policies and initialisers.
 
-use crate::signs::{CmpOp, FilterOp};
+
 use crate::types::{FieldNo, ModelNo, StaticNo};
 use sc_ast::{Name, Txt};
+use sc_tree::{CmpOp, FilterOp};
 use sqlite_items::{Boxed, Items};
 
 /// An expression. A variable is its depth: how many stand outside it.
