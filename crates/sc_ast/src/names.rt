@@ -40,6 +40,14 @@ impl Name {
         }
     }
 
+    /// The name that the bytes are.
+    pub fn of(bytes: Vec<u8>) -> Name
+        requires { IsName bytes.items }
+        ensures { result ≡ bytes.items }
+    {
+        Name { bytes }
+    }
+
     /// The bytes of the name.
     pub fn bytes(&self) -> &[u8]
         ensures bytes { result.now ≡ self.now }

@@ -45,6 +45,14 @@ impl Txt {
         }
     }
 
+    /// The text that the bytes are.
+    pub fn of(bytes: Vec<u8>) -> Txt
+        requires { IsText bytes.items }
+        ensures { result ≡ bytes.items }
+    {
+        Txt { bytes }
+    }
+
     /// The bytes of the text.
     pub fn bytes(&self) -> &[u8]
         ensures bytes { result.now ≡ self.now }

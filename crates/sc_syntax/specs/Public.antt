@@ -1,0 +1,2 @@
+-- The words that the public contracts speak in.
+pub use Rattle.sc_syntax.specs.Reads.{Reads, cause_of, reading}

@@ -1,0 +1,287 @@
+//! A cursor over the tokens of a text.
+
+ghost use Rattle.std.specs.Prelude.{◌≡◌, ◌≢◌, [], ◌∷◌, ◌↔◌, IsTrue, IfOk, length, drop, slice_get};
+ghost use Rattle.sc_ast.specs.Pieces.{pieces_of};
+ghost use Rattle.sc_tree.specs.Forms as forms;
+ghost use Rattle.sc_tree.specs.Forms.{Sign, Word as WordOf, Upper, Lower, Plain, Negated, Literal, admits};
+ghost use Rattle.sc_forms.specs.Reading.{one, starts};
+ghost use Rattle.sc_syntax.specs.Pieces.{AreTokensIn};
+ghost use Rattle.sc_syntax.specs.Reads.{Reads};
+
+use crate::pieces::{Piece, Word};
+use crate::reserved::{is_reserved_lower, is_reserved_upper};
+use crate::stop::Stop;
+use sc_lexer::{Token, TokenKind};
+use std::marker::Model;
+
+/// The largest number without a sign.
+const LARGEST_PLAIN: u64 = 9_223_372_036_854_775_807;
+
+/// The tokens that are left to read. Contracts see them as the list of their pieces: kind, bytes
+/// and offset.
+#[derive(Drop)]
+pub struct Cursor<'a> {
+    text: &'a [u8],
+    tokens: &'a [Token],
+}
+
+impl<'a> Model for Cursor<'a> {
+    ghost use Rattle.std.specs.Prelude.{List};
+    ghost use Rattle.sc_ast.specs.Pieces.{Piece, pieces_of};
+
+    ghost Value = { List Piece };
+
+    ghost use Rattle.sc_syntax.specs.Pieces.{AreTokensIn};
+
+    ghost view = { λ c. pieces_of c.text.now c.tokens.now };
+
+    ghost invariant = { λ c. AreTokensIn c.text.now c.tokens.now };
+}
+
+/// Whether two tokens are of one kind.
+#[tactic(auto, unfolding(sc_tree::specs::Forms::same_kind))]
+fn same_kind(a: TokenKind, b: TokenKind) -> bool
+    ensures value { result ≡ forms.same_kind a b }
+    ensures same { IsTrue result → a ≡ b }
+{
+    a == b
+}
+
+#[tactic(auto, unfolding(sc_tree::specs::Forms::admits))]
+fn is_upper(piece: &Piece<'_>) -> bool
+    ensures value { result ≡ admits Upper piece.now }
+    ensures kind { IsTrue result → piece.now.kind ≡ TokenKind.Upper }
+{
+    same_kind(piece.kind(), TokenKind::Upper) && !is_reserved_upper(piece.bytes())
+}
+
+#[tactic(auto, unfolding(sc_tree::specs::Forms::admits))]
+fn is_lower(piece: &Piece<'_>) -> bool
+    ensures value { result ≡ admits Lower piece.now }
+    ensures kind { IsTrue result → piece.now.kind ≡ TokenKind.Lower }
+{
+    same_kind(piece.kind(), TokenKind::Lower) && !is_reserved_lower(piece.bytes())
+}
+
+#[tactic(auto, unfolding(sc_tree::specs::Forms::admits))]
+fn is_plain(piece: &Piece<'_>) -> bool
+    ensures value { result ≡ admits Plain piece.now }
+    ensures kind { IsTrue result → piece.now.kind ≡ TokenKind.Number }
+{
+    same_kind(piece.kind(), TokenKind::Number) && piece.number() <= LARGEST_PLAIN
+}
+
+#[tactic(auto, unfolding(sc_tree::specs::Forms::admits))]
+fn is_negated(piece: &Piece<'_>) -> bool
+    ensures value { result ≡ admits Negated piece.now }
+    ensures kind { IsTrue result → piece.now.kind ≡ TokenKind.Number }
+{
+    same_kind(piece.kind(), TokenKind::Number) && piece.number() >= 1
+}
+
+impl<'a> Cursor<'a> {
+    /// All tokens of the text.
+    pub fn new(text: &'a [u8], tokens: &'a [Token]) -> Cursor<'a>
+        requires { AreTokensIn text.now tokens.now }
+        ensures { result ≡ pieces_of text.now tokens.now }
+    {
+        Cursor { text, tokens }
+    }
+
+    /// How many tokens are left.
+    pub fn len(&self) -> usize
+        ensures { result ≡ length self.now }
+    {
+        self.tokens.len()
+    }
+
+    /// Whether none is left.
+    pub fn is_empty(&self) -> bool
+        ensures { IsTrue result ↔ (self.now ≡ []) }
+    {
+        self.tokens.is_empty()
+    }
+
+    /// Passes over the next token.
+    fn skip(&mut self)
+        requires { self.old ≢ [] }
+        ensures { self.new ≡ drop 1 self.old }
+    {
+        self.tokens = &self.tokens[1..];
+    }
+
+    /// The next token.
+    fn first(&self) -> Option<Piece<'a>>
+        ensures { result ≡ slice_get self.now 0 }
+    {
+        let token = *self.tokens.first()?;
+        Some(Piece::new(self.text, token))
+    }
+
+    /// Whether the next token is of this kind.
+    #[tactic(auto, unfolding(sc_tree::specs::Forms::admits))]
+    pub fn sees(&self, kind: TokenKind) -> bool
+        ensures { result ≡ starts (Sign kind ∷ []) self.now }
+    {
+        match self.first() {
+            Some(piece) => same_kind(piece.kind(), kind),
+            None => false,
+        }
+    }
+
+    /// Whether the next token is this reserved word.
+    #[tactic(auto, unfolding(sc_tree::specs::Forms::admits))]
+    pub fn sees_word(&self, kind: TokenKind, word: &[u8]) -> bool
+        ensures { result ≡ starts (WordOf kind word.now ∷ []) self.now }
+    {
+        match self.first() {
+            Some(piece) => same_kind(piece.kind(), kind) && piece.bytes() == word,
+            None => false,
+        }
+    }
+
+    /// A token of this kind.
+    #[tactic(auto, unfolding(sc_tree::specs::Forms::admits))]
+    pub fn sign(&mut self, kind: TokenKind) -> Result<Piece<'a>, Stop>
+        ensures { Reads (one (Sign kind) self.old) result self.new }
+    {
+        match self.first() {
+            Some(piece) if same_kind(piece.kind(), kind) => {
+                self.skip();
+                Ok(piece)
+            }
+            _ => Err(Stop::NotGrammar),
+        }
+    }
+
+    /// This reserved word.
+    #[tactic(auto, unfolding(sc_tree::specs::Forms::admits))]
+    pub fn word(&mut self, kind: TokenKind, word: &[u8]) -> Result<Piece<'a>, Stop>
+        ensures { Reads (one (WordOf kind word.now) self.old) result self.new }
+    {
+        match self.first() {
+            Some(piece) if same_kind(piece.kind(), kind) && piece.bytes() == word => {
+                self.skip();
+                Ok(piece)
+            }
+            _ => Err(Stop::NotGrammar),
+        }
+    }
+
+    /// The name of a static or a model.
+    #[tactic(auto, unfolding(sc_tree::specs::Forms::admits))]
+    pub fn upper(&mut self) -> Result<Word<'a>, Stop>
+        ensures { Reads (one Upper self.old) result self.new }
+    {
+        match self.first() {
+            Some(piece) if is_upper(&piece) => {
+                self.skip();
+                Ok(piece.word())
+            }
+            _ => Err(Stop::NotGrammar),
+        }
+    }
+
+    /// The name of a field or a variable.
+    #[tactic(auto, unfolding(sc_tree::specs::Forms::admits))]
+    pub fn lower(&mut self) -> Result<Word<'a>, Stop>
+        ensures { Reads (one Lower self.old) result self.new }
+    {
+        match self.first() {
+            Some(piece) if is_lower(&piece) => {
+                self.skip();
+                Ok(piece.word())
+            }
+            _ => Err(Stop::NotGrammar),
+        }
+    }
+
+    /// A number without a sign: a token of at most 2^63 - 1.
+    #[tactic(auto, unfolding(sc_tree::specs::Forms::admits))]
+    pub fn plain(&mut self) -> Result<Piece<'a>, Stop>
+        ensures reads { Reads (one Plain self.old) result self.new }
+        ensures number { IfOk result (λ l. l.kind ≡ TokenKind.Number) }
+    {
+        match self.first() {
+            Some(piece) if is_plain(&piece) => {
+                self.skip();
+                Ok(piece)
+            }
+            _ => Err(Stop::NotGrammar),
+        }
+    }
+
+    /// A number after a minus: a token other than 0.
+    #[tactic(auto, unfolding(sc_tree::specs::Forms::admits))]
+    pub fn negated(&mut self) -> Result<Piece<'a>, Stop>
+        ensures reads { Reads (one Negated self.old) result self.new }
+        ensures number { IfOk result (λ l. l.kind ≡ TokenKind.Number) }
+    {
+        match self.first() {
+            Some(piece) if is_negated(&piece) => {
+                self.skip();
+                Ok(piece)
+            }
+            _ => Err(Stop::NotGrammar),
+        }
+    }
+
+    /// A text in quotes.
+    #[tactic(auto, unfolding(sc_tree::specs::Forms::admits))]
+    pub fn literal(&mut self) -> Result<Piece<'a>, Stop>
+        ensures reads { Reads (one Literal self.old) result self.new }
+        ensures text { IfOk result (λ l. l.kind ≡ TokenKind.Text) }
+    {
+        match self.first() {
+            Some(piece) if same_kind(piece.kind(), TokenKind::Text) => {
+                self.skip();
+                Ok(piece)
+            }
+            _ => Err(Stop::NotGrammar),
+        }
+    }
+
+    /// Whether the next token is the name of a static or a model.
+    #[tactic(auto, unfolding(sc_tree::specs::Forms::admits))]
+    pub fn sees_upper(&self) -> bool
+        ensures { result ≡ starts (Upper ∷ []) self.now }
+    {
+        match self.first() {
+            Some(piece) => is_upper(&piece),
+            None => false,
+        }
+    }
+
+    /// Whether the next token is the name of a field or a variable.
+    #[tactic(auto, unfolding(sc_tree::specs::Forms::admits))]
+    pub fn sees_lower(&self) -> bool
+        ensures { result ≡ starts (Lower ∷ []) self.now }
+    {
+        match self.first() {
+            Some(piece) => is_lower(&piece),
+            None => false,
+        }
+    }
+
+    /// Whether the next token is a number without a sign.
+    #[tactic(auto, unfolding(sc_tree::specs::Forms::admits))]
+    pub fn sees_plain(&self) -> bool
+        ensures { result ≡ starts (Plain ∷ []) self.now }
+    {
+        match self.first() {
+            Some(piece) => is_plain(&piece),
+            None => false,
+        }
+    }
+
+    /// Whether the next token is a text in quotes.
+    #[tactic(auto, unfolding(sc_tree::specs::Forms::admits))]
+    pub fn sees_literal(&self) -> bool
+        ensures { result ≡ starts (Literal ∷ []) self.now }
+    {
+        match self.first() {
+            Some(piece) => same_kind(piece.kind(), TokenKind::Text),
+            None => false,
+        }
+    }
+}

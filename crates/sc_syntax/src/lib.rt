@@ -1,0 +1,20 @@
+//! Parsers of specifications and migration scripts.
+//!
+//! A recursive descent over the tokens of a text. Each production is a function that equals the
+//! reader of its form (`specs/Reading.antt` of sc_forms), so that what holds of readers holds of the
+//! code: the laws about them are proved in sc_forms, once for the whole grammar.
+//!
+//! | module | holds |
+//! |---|---|
+//! | `stop` | `Stop`, why a form is not read |
+//! | `pieces` | tokens with their bytes, and what names, numbers and texts they write |
+//! | `reserved` | the reserved words |
+//! | `cursor` | `Cursor`, the tokens that are left to read |
+#![tactic(auto)]
+
+mod cursor;
+mod pieces;
+mod reserved;
+mod stop;
+
+pub use stop::Stop;
