@@ -1,7 +1,4 @@
-pub mod Forms
-pub mod Grammar
+pub mod Limits
 pub mod Pieces
 pub mod Public
-pub mod SameTree
-pub mod Texts
 pub mod Words

@@ -1,4 +1,4 @@
-//! The trees of specifications and migration scripts, and how tokens spell them.
+//! Names and texts, and the trees of small specifications and migration scripts.
 //!
 //! | module | holds |
 //! |---|---|
@@ -10,7 +10,7 @@
 //!
 //! Contracts see a tree as plain data: a list as its items, a name as its bytes. Each tree keeps
 //! the byte offset of its first token, and each name that is not that token its own.
-//! `specs/Grammar.antt` says which tokens spell a tree.
+//! `specs/Limits.antt` has the limits of the language.
 #![tactic(auto)]
 
 mod commands;

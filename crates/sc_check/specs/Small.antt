@@ -13,7 +13,7 @@ use Rattle.sc_ast.specs.declared.models.Spec.{Spec}
 use Rattle.sc_ast.specs.declared.commands.Command.{Command}
 use Rattle.sc_ast.specs.declared.commands.Command.TheVariants.{UpdateFieldPolicy}
 use Rattle.sc_ast.specs.declared.commands.Script.{Script}
-use Rattle.sc_ast.specs.Grammar.{most_statics, most_commands}
+use Rattle.sc_ast.specs.Limits.{most_statics, most_commands}
 use Rattle.sc_check.specs.Access.{is_principal_of, field_of}
 
 -- no two of them have one name

@@ -2,7 +2,7 @@
 use Rattle.std.proofs.Common.{◌≡◌, ℕ, zero, suc, ◌≤◌, List, [], ◌∷◌, ◌++◌, length, refl, ap, sym, ◌∙◌, subst, Bool, false, arith, append_assoc, append-nil}
 use Rattle.std.specs.Prelude.{Option, Some, None, option_and_then, if◌then◌else◌}
 use Rattle.sc_ast.specs.Pieces.{Piece}
-use Rattle.sc_ast.specs.Forms.{Each}
+use Rattle.sc_parser.specs.Forms.{Each}
 use Rattle.sc_parser.specs.Reading.{is_end, until_end, whole}
 use Rattle.sc_parser.proofs.Steps.{Front, Agrees, join, unstep, step, some_injective}
 

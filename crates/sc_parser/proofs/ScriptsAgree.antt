@@ -7,8 +7,8 @@ use Rattle.sc_ast.specs.declared.commands.Command.{Command}
 use Rattle.sc_ast.specs.declared.commands.Command.TheVariants.{UpdateFieldPolicy}
 use Rattle.sc_ast.specs.declared.commands.Script.{Script}
 use Rattle.sc_ast.specs.Pieces.{Piece}
-use Rattle.sc_ast.specs.Forms.{◌⨾◌, Each, Sign, Word}
-use Rattle.sc_ast.specs.Grammar as g
+use Rattle.sc_parser.specs.Forms.{◌⨾◌, Each, Sign, Word}
+use Rattle.sc_parser.specs.Grammar as g
 use Rattle.sc_parser.specs.Reading as r
 use Rattle.sc_parser.specs.Readers.{same_kind, sign, word}
 use Rattle.sc_parser.proofs.Steps.{Front, Agrees, join, loosen, unstep, unstep_sound, step, last_step, some_injective, unbranch, take_branch, leave_branch}

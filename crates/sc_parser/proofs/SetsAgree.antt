@@ -12,8 +12,8 @@ use Rattle.sc_ast.specs.declared.policies.SetExpr.TheVariants as set
 use Rattle.sc_ast.specs.declared.policies.Policy.{Policy}
 use Rattle.sc_ast.specs.declared.policies.Policy.TheVariants.{Everyone, Nobody, Fun}
 use Rattle.sc_ast.specs.Pieces.{Piece}
-use Rattle.sc_ast.specs.Forms.{◌⨾◌, Each, Sign, SignAt, Word, WordAt}
-use Rattle.sc_ast.specs.Grammar as g
+use Rattle.sc_parser.specs.Forms.{◌⨾◌, Each, Sign, SignAt, Word, WordAt}
+use Rattle.sc_parser.specs.Grammar as g
 use Rattle.sc_parser.specs.Reading as r
 use Rattle.sc_parser.specs.Readers.{same_kind, sign, word}
 use Rattle.sc_parser.proofs.Steps.{Front, Agrees, join, loosen, unstep, unstep_sound, step, last_step, some_injective, unbranch, take_branch, take_whole, leave_branch}

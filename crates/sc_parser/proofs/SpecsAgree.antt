@@ -11,8 +11,8 @@ use Rattle.sc_ast.specs.declared.models.ModelDef.{ModelDef}
 use Rattle.sc_ast.specs.declared.models.StaticDef.{StaticDef}
 use Rattle.sc_ast.specs.declared.models.Spec.{Spec}
 use Rattle.sc_ast.specs.Pieces.{Piece}
-use Rattle.sc_ast.specs.Forms.{◌⨾◌, Each, Optional, Sign, SignAt, WordAt}
-use Rattle.sc_ast.specs.Grammar as g
+use Rattle.sc_parser.specs.Forms.{◌⨾◌, Each, Optional, Sign, SignAt, WordAt}
+use Rattle.sc_parser.specs.Grammar as g
 use Rattle.sc_parser.specs.Reading as r
 use Rattle.sc_parser.specs.Readers.{same_kind, sign, word}
 use Rattle.sc_parser.proofs.Steps.{Front, Agrees, join, loosen, unstep, unstep_sound, step, last_step, some_injective, unbranch, take_branch, leave_branch}

@@ -2,7 +2,7 @@
 use Rattle.std.proofs.Common.{◌≡◌, ◌⊎◌, inl, inr, List, ◌++◌, refl, ap, sym, ◌∙◌, append_assoc}
 use Rattle.std.specs.Prelude.{Option, Some, None, option_and_then}
 use Rattle.sc_ast.specs.Pieces.{Piece}
-use Rattle.sc_ast.specs.Forms.{◌⨾◌}
+use Rattle.sc_parser.specs.Forms.{◌⨾◌}
 use Rattle.sc_parser.specs.Reading.{if_read}
 
 -- A front of the pieces is of the form, and the rest follows it.

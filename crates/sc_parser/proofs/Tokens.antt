@@ -9,7 +9,7 @@ use Rattle.sc_lexer.specs.declared.token.TokenKind.{TokenKind}
 use Rattle.sc_lexer.specs.declared.token.TokenKind.TheVariants.{Upper, Lower}
 use Rattle.sc_ast.specs.Pieces.{Piece}
 use Rattle.sc_ast.specs.Words.{is_name, is_reserved_upper, is_reserved_lower}
-use Rattle.sc_ast.specs.Forms.{SignAt, WordAt, UpperAt, LowerAt}
+use Rattle.sc_parser.specs.Forms.{SignAt, WordAt, UpperAt, LowerAt}
 use Rattle.sc_parser.specs.Readers.{one, same_kind, sign_of, word_of, upper_of, lower_of, sign, word, upper, lower}
 use Rattle.sc_parser.proofs.Steps.{Front, Agrees, some_injective}
 

@@ -5,6 +5,7 @@ use Rattle.std.specs.Option.{option_map}
 use Rattle.sc_lexer.specs.Lexeme.{Lexeme}
 use Rattle.sc_lexer.specs.declared.token.TokenKind.{TokenKind}
 use Rattle.sc_lexer.specs.declared.token.TokenKind.TheVariants as k
+use Rattle.sc_ast.specs.Limits.{most_commands, most_fields, most_models, most_statics, most_tokens}
 use Rattle.sc_ast.specs.declared.policies.Item.{Item}
 use Rattle.sc_ast.specs.declared.policies.Item.TheVariants.{Static}
 use Rattle.sc_ast.specs.declared.policies.SetExpr.{SetExpr}
@@ -22,9 +23,9 @@ use Rattle.sc_ast.specs.declared.commands.Command.{Command}
 use Rattle.sc_ast.specs.declared.commands.Command.TheVariants.{UpdateFieldPolicy}
 use Rattle.sc_ast.specs.declared.commands.Script.{Script}
 use Rattle.sc_ast.specs.Pieces.{Piece}
-use Rattle.sc_ast.specs.Forms.{◌⨾◌, Each, Optional, Sign, SignAt, Word, WordAt, UpperAt, LowerAt}
-use Rattle.sc_ast.specs.Grammar as g
-use Rattle.sc_ast.specs.SameTree as u
+use Rattle.sc_parser.specs.Forms.{◌⨾◌, Each, Optional, Sign, SignAt, Word, WordAt, UpperAt, LowerAt}
+use Rattle.sc_parser.specs.Grammar as g
+use Rattle.sc_parser.specs.SameTree as u
 use Rattle.sc_parser.specs.Reading.{whole}
 use Rattle.sc_parser.proofs.Steps.{some_injective}
 use Rattle.sc_parser.proofs.WholeTexts.{Reader_of}
@@ -101,7 +102,7 @@ set_of (suc n) (set.List xs at) ls (inr (inner, h)) =
 
 outermost : (x : SetExpr) → Erases (g.SpellsOutermost x) (g.SpellsOutermost (u.unplaced_set x))
 outermost x = record {
-  erase = λ ls (h, short). (set_of 64 x ls h, subst (λ (n : ℕ). n ≤ g.most_set_tokens) (sym (length-map (λ l. at_zero (u.lexeme_in l)) ls)) short);
+  erase = λ ls (h, short). (set_of 64 x ls h, subst (λ (n : ℕ). n ≤ most_tokens) (sym (length-map (λ l. at_zero (u.lexeme_in l)) ls)) short);
 }
 
 policy : (p : Policy) → Erases (g.SpellsPolicy p) (g.SpellsPolicy (u.unplaced_policy p))
@@ -137,7 +138,7 @@ model m = record {
   erase = λ ls (h, le). (
     (both (word_at k.Lower _ m.at) (both (upper_at m.name m.name_at) (both (sign k.BraceOpen)
         (both (right _ m.create) (both (sign k.Comma) (both (right _ m.delete) (fields m.fields))))))).erase ls h,
-    few u.unplaced_field m.fields g.most_fields le,
+    few u.unplaced_field m.fields most_fields le,
   );
 }
 
@@ -147,8 +148,8 @@ static s = both (word k.Lower _) (upper_at s.name s.at)
 spec : (s : Spec) (ls : List Piece) → g.SpellsSpec s ls → g.SpellsSpec (u.unplaced_spec s) (erased ls)
 spec s ls (h, le, les) = (
   (both (each g.SpellsStatic g.SpellsStatic u.unplaced_static static s.statics) (each g.SpellsModel g.SpellsModel u.unplaced_model model s.models)).erase ls h,
-  few u.unplaced_static s.statics g.most_statics le,
-  few u.unplaced_model s.models g.most_models les,
+  few u.unplaced_static s.statics most_statics le,
+  few u.unplaced_model s.models most_models les,
 )
 
 -- ---- scripts
@@ -166,7 +167,7 @@ command (UpdateFieldPolicy m f f_at read write at) =
     (both (lower_at f f_at) (both (sign k.Comma) (both (rights read write) (sign k.ParenClose)))))))
 
 script : (s : Script) (ls : List Piece) → g.SpellsScript s ls → g.SpellsScript (u.unplaced_script s) (erased ls)
-script s ls (h, le) = ((each g.SpellsCommand g.SpellsCommand u.unplaced_command command s.commands).erase ls h, few u.unplaced_command s.commands g.most_commands le)
+script s ls (h, le) = ((each g.SpellsCommand g.SpellsCommand u.unplaced_command command s.commands).erase ls h, few u.unplaced_command s.commands most_commands le)
 
 -- ---- the law
 

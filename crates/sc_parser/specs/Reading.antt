@@ -18,7 +18,7 @@ use Rattle.sc_ast.specs.declared.commands.Command.{Command}
 use Rattle.sc_ast.specs.declared.commands.Command.TheVariants.{UpdateFieldPolicy}
 use Rattle.sc_ast.specs.declared.commands.Script.{Script}
 use Rattle.sc_ast.specs.Pieces.{Piece}
-use Rattle.sc_ast.specs.Grammar.{most_levels, most_set_tokens, most_statics, most_models, most_fields, most_commands}
+use Rattle.sc_ast.specs.Limits.{most_levels, most_tokens, most_statics, most_models, most_fields, most_commands}
 use Rattle.sc_parser.specs.Readers.{Reader, ◌>>=◌, ◌>>◌, pure, sign, word, upper, lower}
 
 -- the second where the first reads nothing
@@ -63,7 +63,7 @@ set_within zero ls = None
 set_within (suc n) ls = branch (sign k.ParenOpen) (λ at. set_within n >>= (λ inner. sign k.ParenClose >> pure (moved_to at inner))) bracketed ls
 
 unfoldable pub outermost : Reader SetExpr
-outermost ls = option_and_then (λ x. if nat_le (length ls - length x.1) most_set_tokens then Some x else None) (set_within most_levels ls)
+outermost ls = option_and_then (λ x. if nat_le (length ls - length x.1) most_tokens then Some x else None) (set_within most_levels ls)
 
 unfoldable pub rule : Reader Policy
 rule = do

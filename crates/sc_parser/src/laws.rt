@@ -1,10 +1,10 @@
 //! What holds of the trees of any text.
 
 ghost use Rattle.std.specs.Prelude.{◌≡◌, ℕ, List};
-ghost use Rattle.sc_ast.specs.Grammar.{SpellsSpec, SpellsScript};
+ghost use Rattle.sc_parser.specs.Grammar.{SpellsSpec, SpellsScript};
 ghost use Rattle.sc_ast.specs.Pieces.{Piece};
-ghost use Rattle.sc_ast.specs.SameTree.{AreSameTokens, IsSameSpec, IsSameScript};
-ghost use Rattle.sc_ast.specs.Texts.{IsSpecText, IsScriptText};
+ghost use Rattle.sc_parser.specs.SameTree.{AreSameTokens, IsSameSpec, IsSameScript};
+ghost use Rattle.sc_parser.specs.Texts.{IsSpecText, IsScriptText};
 ghost use Rattle.sc_ast.specs.declared.models.Spec.{Spec};
 ghost use Rattle.sc_ast.specs.declared.commands.Script.{Script};
 

@@ -3,7 +3,7 @@
 ghost use Rattle.std.specs.Prelude.{◌≡◌, ◌<◌, ◌^◌, length, IfOk, IsErrOf};
 ghost use Rattle.sc_lexer.specs.Lexes.{Lexes};
 ghost use Rattle.sc_ast.specs.Pieces.{pieces_of};
-ghost use Rattle.sc_ast.specs.Texts.{IsSpecText, IsScriptText};
+ghost use Rattle.sc_parser.specs.Texts.{IsSpecText, IsScriptText};
 ghost use Rattle.sc_ast.specs.declared.models.Spec.{Spec};
 ghost use Rattle.sc_ast.specs.declared.commands.Script.{Script};
 ghost use Rattle.sc_parser.specs.Readers.{Sees};

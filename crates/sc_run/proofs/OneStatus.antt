@@ -4,7 +4,7 @@ use Rattle.std.specs.Prelude.{⊤, Option, Some, None, IsSomeAnd, Result, Ok, Er
 use Rattle.sc_flow.specs.Files.{Files}
 use Rattle.sc_ast.specs.declared.models.Spec.{Spec}
 use Rattle.sc_ast.specs.declared.commands.Script.{Script}
-use Rattle.sc_ast.specs.Texts.{IsSpecText, IsScriptText}
+use Rattle.sc_parser.specs.Texts.{IsSpecText, IsScriptText}
 use Rattle.sc_check.specs.declared.outcome.Outcome.{Outcome}
 use Rattle.sc_check.specs.declared.outcome.Outcome.TheVariants as outcome
 use Rattle.sc_check.specs.declared.outcome.Leak.{Leak}

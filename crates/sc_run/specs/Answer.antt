@@ -3,7 +3,7 @@ use Rattle.std.specs.Prelude.{◌≡◌, ℕ, List, Option, Some, None, Ok, Err}
 use Rattle.sc_flow.specs.Files.{Files}
 use Rattle.sc_ast.specs.declared.models.Spec.{Spec}
 use Rattle.sc_ast.specs.declared.commands.Script.{Script}
-use Rattle.sc_ast.specs.Texts.{IsSpecText, IsScriptText}
+use Rattle.sc_parser.specs.Texts.{IsSpecText, IsScriptText}
 use Rattle.sc_check.specs.declared.outcome.Outcome.{Outcome}
 use Rattle.sc_check.specs.declared.outcome.Outcome.TheVariants as outcome
 use Rattle.sc_check.specs.Outcome.{IsOutcome}

@@ -1,7 +1,7 @@
 //! The stages of `check SPEC SCRIPT`.
 
 ghost use Rattle.std.specs.Prelude.{◌≡◌, ◌≤◌, Err, None, length};
-ghost use Rattle.sc_ast.specs.Grammar.{most_statics, most_commands};
+ghost use Rattle.sc_ast.specs.Limits.{most_statics, most_commands};
 ghost use Rattle.sc_flow.specs.Outside.{IsRead};
 ghost use Rattle.sc_run.specs.Answer.{Checks, ChecksFiles, Runs};
 ghost use Rattle.sc_run.specs.Words.{names_of};

@@ -2,7 +2,7 @@
 
 ghost use Rattle.std.specs.Prelude.{◌≡◌, ◌<◌, ◌≤◌, ◌^◌, ℕ, List, IfOk, IsErrOf, MatchResult, Err};
 ghost use Rattle.std.specs.Prelude.{Ok, length};
-ghost use Rattle.sc_ast.specs.Texts.{IsSpecText, IsScriptText};
+ghost use Rattle.sc_parser.specs.Texts.{IsSpecText, IsScriptText};
 ghost use Rattle.sc_flow.specs.Outside.{IsRead};
 ghost use Rattle.sc_run.specs.Loads.{Fetches, Loads, Reads};
 

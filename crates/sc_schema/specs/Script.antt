@@ -1,6 +1,6 @@
 -- Typed scripts.
 use Rattle.std.specs.Prelude.{◌≡◌, ◌≤◌, ℕ, suc, ◌+◌, List, [], ◌∷◌, ◌++◌, length, map, Option, Some, slice_get, slice_index_or}
-use Rattle.sc_ast.specs.Grammar.{most_commands}
+use Rattle.sc_ast.specs.Limits.{most_commands}
 use Rattle.sc_schema.specs.Trees.{to_none}
 use Rattle.sc_schema.specs.Schema.{FieldInfo, ModelInfo, Schema}
 use Rattle.sc_schema.specs.Commands.{Command, create_model, delete_model, add_static, remove_static, add_principal, add_field, remove_field, update_field, weaken_field, update_model, weaken_model, schema_after, IsCommand}

@@ -17,30 +17,11 @@ use Rattle.sc_tree.specs.declared.models.Spec.{Spec}
 use Rattle.sc_tree.specs.declared.commands.Command.{Command}
 use Rattle.sc_tree.specs.declared.commands.Command.TheVariants as command
 use Rattle.sc_tree.specs.declared.commands.Script.{Script}
+pub use Rattle.sc_ast.specs.Limits.{most_levels, most_tokens, most_statics, most_models, most_fields, most_commands}
 use Rattle.sc_ast.specs.Pieces.{Piece}
 use Rattle.sc_tree.specs.Forms.{Form, Want, Times, AnyNumber, AtMost, Sign, Word, Upper, Lower, Literal, TooManyStatics, TooManyModels, TooManyFields, TooManyCommands, nothing, token, both, either, each, ended, mapped, part, within}
 use Rattle.sc_tree.specs.LiteralValue.{literal_value}
 use Rattle.sc_tree.specs.ExprGrammar.{G, Expression, Set, ◌⨾◌, keyword, type_word, sign, parens, braces, behind, lambda, named}
-
--- how deep expressions and sets nest, and how many tokens the outermost have
-abbrev pub most_levels : ℕ
-most_levels = 64
-
-abbrev pub most_tokens : ℕ
-most_tokens = 1024
-
-abbrev pub most_statics : ℕ
-most_statics = 64
-
-abbrev pub most_models : ℕ
-most_models = 64
-
--- of one model
-abbrev pub most_fields : ℕ
-most_fields = 64
-
-abbrev pub most_commands : ℕ
-most_commands = 256
 
 -- ---- policies
 

@@ -1,4 +1,4 @@
-use Rattle.sc_ast.specs.Grammar.{SpellsSpec, SpellsScript}
+use Rattle.sc_parser.specs.Grammar.{SpellsSpec, SpellsScript}
 use Rattle.sc_parser.specs.Reading.{whole, spec, script}
 use Rattle.sc_parser.proofs.SpecsAgree.{spec-sound, spec-complete}
 use Rattle.sc_parser.proofs.ScriptsAgree.{script-sound, script-complete}

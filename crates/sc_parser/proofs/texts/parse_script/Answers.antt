@@ -1,5 +1,5 @@
 use Rattle.std.proofs.Common.{ap, ◌∙◌}
-use Rattle.sc_ast.specs.Grammar.{SpellsScript}
+use Rattle.sc_parser.specs.Grammar.{SpellsScript}
 use Rattle.sc_ast.specs.Pieces.{pieces_of}
 use Rattle.sc_parser.specs.Reading.{whole, script}
 use Rattle.sc_parser.proofs.ScriptsAgree.{script-sound, script-complete}

@@ -1,5 +1,5 @@
 use Rattle.std.proofs.Common.{ap, ◌∙◌}
-use Rattle.sc_ast.specs.Grammar.{SpellsSpec}
+use Rattle.sc_parser.specs.Grammar.{SpellsSpec}
 use Rattle.sc_ast.specs.Pieces.{pieces_of}
 use Rattle.sc_parser.specs.Reading.{whole, spec}
 use Rattle.sc_parser.proofs.SpecsAgree.{spec-sound, spec-complete}

@@ -1,6 +1,7 @@
 -- The grammar: which pieces of a text spell a tree, with the limits of the language.
 use Rattle.std.specs.Prelude.{ℕ, zero, suc, ◌≤◌, List, [], ◌∷◌, length, ◌⊎◌, Option, Some, None, codes}
 use Rattle.sc_lexer.specs.declared.token.TokenKind.TheVariants as k
+use Rattle.sc_ast.specs.Limits.{most_levels, most_tokens, most_statics, most_models, most_fields, most_commands}
 use Rattle.sc_ast.specs.declared.policies.Item.{Item}
 use Rattle.sc_ast.specs.declared.policies.Item.TheVariants.{Static}
 use Rattle.sc_ast.specs.declared.policies.SetExpr.{SetExpr}
@@ -18,27 +19,7 @@ use Rattle.sc_ast.specs.declared.models.Spec.{Spec}
 use Rattle.sc_ast.specs.declared.commands.Command.{Command}
 use Rattle.sc_ast.specs.declared.commands.Command.TheVariants.{UpdateFieldPolicy}
 use Rattle.sc_ast.specs.declared.commands.Script.{Script}
-use Rattle.sc_ast.specs.Forms.{Form, Nothing, ◌⨾◌, Optional, Each, Sign, SignAt, Word, WordAt, UpperAt, LowerAt}
-
--- how deep sets nest, and how many tokens the outermost has
-abbrev pub most_levels : ℕ
-most_levels = 64
-
-abbrev pub most_set_tokens : ℕ
-most_set_tokens = 1024
-
-abbrev pub most_statics : ℕ
-most_statics = 64
-
-abbrev pub most_models : ℕ
-most_models = 64
-
--- of one model
-abbrev pub most_fields : ℕ
-most_fields = 64
-
-abbrev pub most_commands : ℕ
-most_commands = 256
+use Rattle.sc_parser.specs.Forms.{Form, Nothing, ◌⨾◌, Optional, Each, Sign, SignAt, Word, WordAt, UpperAt, LowerAt}
 
 -- ---- policies
 
@@ -59,7 +40,7 @@ SpellsSet (suc n) (set.List items at) ls =
 
 -- a set that no other set holds
 abbrev pub SpellsOutermost : SetExpr → Form
-SpellsOutermost set ls = SpellsSet most_levels set ls × (length ls ≤ most_set_tokens)
+SpellsOutermost set ls = SpellsSet most_levels set ls × (length ls ≤ most_tokens)
 
 abbrev pub SpellsPolicy : Policy → Form
 SpellsPolicy (Everyone at) = WordAt k.Lower (codes "public") at

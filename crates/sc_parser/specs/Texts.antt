@@ -5,7 +5,7 @@ use Rattle.sc_lexer.specs.Lexes.{Lexes}
 use Rattle.sc_ast.specs.declared.models.Spec.{Spec}
 use Rattle.sc_ast.specs.declared.commands.Script.{Script}
 use Rattle.sc_ast.specs.Pieces.{pieces_of}
-use Rattle.sc_ast.specs.Grammar.{SpellsSpec, SpellsScript}
+use Rattle.sc_parser.specs.Grammar.{SpellsSpec, SpellsScript}
 
 -- The text has tokens, and they spell the tree.
 abbrev pub IsSpecText : List ℕ → Spec → Type 0
