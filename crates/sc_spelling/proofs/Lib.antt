@@ -2,12 +2,16 @@ pub mod Again
 pub mod Canonical
 pub mod Chains
 pub mod Choices
+pub mod CommandForms
 pub mod Compounds
 pub mod ExprForms
 pub mod ExprRule
+pub mod Fusion
 pub mod Layers
 pub mod Literals
+pub mod ModelForms
 pub mod More
+pub mod Needed
 pub mod PolicyForms
 pub mod Printed
 pub mod Ranks

@@ -1,9 +1,9 @@
 //! What holds of canonical spellings.
 //!
-//! The canonical text of a tree spells that tree, offsets aside, within the limits that any spelling of it keeps,
-//! and with no more tokens than any.
+//! The canonical spelling of a tree spells that tree, offsets aside, within the limits that any spelling
+//! of it keeps. No spelling of an expression, a set or a policy has fewer tokens.
 #![tactic(auto)]
 
 mod laws;
 
-pub use laws::policies_are_reprinted;
+pub use laws::{parentheses_are_needed, policies_are_reprinted, texts_are_reprinted};
