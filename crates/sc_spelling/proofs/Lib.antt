@@ -1,4 +1,6 @@
 pub mod Again
+pub mod CalmTexts
+pub mod CalmTrees
 pub mod Canonical
 pub mod Chains
 pub mod Choices
@@ -11,6 +13,7 @@ pub mod Layers
 pub mod Literals
 pub mod ModelForms
 pub mod More
+pub mod Neat
 pub mod Needed
 pub mod PolicyForms
 pub mod Printed
@@ -19,6 +22,8 @@ pub mod SetForms
 pub mod SetRanks
 pub mod SetRule
 pub mod Steps
+pub mod TextLaw
+pub mod TextTokens
 pub mod Tokens
 pub mod Values
 pub mod Whole

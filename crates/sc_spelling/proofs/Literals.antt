@@ -134,7 +134,7 @@ value_is bytes value (inside, is, writes) = ap literal_value is ∙ inside_value
 
 -- ---- UTF-8
 
-cut_before : (front rest : List ℕ) (b : ℕ) → b < 128 → IsUtf8 (front ++ b ∷ rest) → IsUtf8 front × IsUtf8 (b ∷ rest)
+pub cut_before : (front rest : List ℕ) (b : ℕ) → b < 128 → IsUtf8 (front ++ b ∷ rest) → IsUtf8 front × IsUtf8 (b ∷ rest)
 cut_before front rest b small utf8 =
     let text = front ++ b ∷ rest in
     let after : drop (length front) text ≡ b ∷ rest = drop-append_seam front (b ∷ rest) in
@@ -144,7 +144,7 @@ cut_before front rest b small utf8 =
     let boundary = IsCharBoundary-before_ascii text (length front) (omega (arith, length-append front (b ∷ rest))) here in
     (subst IsUtf8 (take_at front (b ∷ rest) (length front) refl) (IsUtf8-take text (length front) utf8 boundary), subst IsUtf8 after (IsUtf8-drop text (length front) utf8 boundary))
 
-cut_after : (b : ℕ) (rest : List ℕ) → b < 128 → IsUtf8 (b ∷ rest) → IsUtf8 rest
+pub cut_after : (b : ℕ) (rest : List ℕ) → b < 128 → IsUtf8 (b ∷ rest) → IsUtf8 rest
 cut_after b rest small utf8 =
     IsUtf8-drop (b ∷ rest) 1 utf8 (IsCharBoundary-after_ascii (b ∷ rest) 0 utf8 (omega arith) small)
 

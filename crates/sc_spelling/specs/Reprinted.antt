@@ -5,7 +5,7 @@ use Rattle.sc_lexer.specs.Lexeme.{Lexeme}
 use Rattle.sc_lexer.specs.Written.{IsPart}
 use Rattle.sc_ast.specs.Pieces.{Piece}
 use Rattle.sc_tree.specs.ExprGrammar.{G}
-use Rattle.sc_tree.specs.Texts.{IsSpelled}
+use Rattle.sc_tree.specs.Texts.{IsSpelled, IsTextOf}
 use Rattle.sc_print.specs.Marks.{Mark, lexemes_of_marks}
 
 -- a piece without its place
@@ -26,3 +26,9 @@ pub record IsReprinted {A : Type 0} (f : G A) (stripped : A → A) (x : A) (most
   pub spells : IsSpelled f tree ls
   pub same : stripped tree ≡ stripped x
   pub short : length ls ≤ most
+
+-- The text spells a tree that is x, offsets aside.
+pub record IsPrinted {A : Type 0} (f : G A) (stripped : A → A) (x : A) (text : List ℕ) : Type 0 where
+  pub tree : A
+  pub spells : IsTextOf f text tree
+  pub same : stripped tree ≡ stripped x

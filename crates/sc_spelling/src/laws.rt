@@ -1,6 +1,6 @@
 //! What holds of the canonical spellings of any trees.
 
-ghost use Rattle.std.specs.Prelude.{List, length, map, ◌≡◌, ◌≤◌, ◌++◌, ◌∷◌};
+ghost use Rattle.std.specs.Prelude.{ℕ, List, length, map, ◌≡◌, ◌≤◌, ◌++◌, ◌∷◌};
 ghost use Rattle.sc_lexer.specs.Lexeme.{Lexeme};
 ghost use Rattle.sc_ast.specs.Pieces.{Piece};
 ghost use Rattle.sc_tree.specs.declared.exprs.Expr.{Expr};
@@ -12,12 +12,23 @@ ghost use Rattle.sc_tree.specs.declared.commands.Script.{Script};
 ghost use Rattle.sc_tree.specs.declared.models.Spec.{Spec};
 ghost use Rattle.sc_tree.specs.Grammar.{policy_form, script_form, spec_form};
 ghost use Rattle.sc_tree.specs.Stripped.{stripped_expr, stripped_policy, stripped_script, stripped_set, stripped_spec};
-ghost use Rattle.sc_tree.specs.Texts.{IsSpelled};
+ghost use Rattle.sc_tree.specs.Texts.{IsScriptText, IsSpecText, IsSpelled, IsTextOf};
 ghost use Rattle.sc_print.specs.Commands.{spelled_script};
 ghost use Rattle.sc_print.specs.Exprs.{spelled_expr, spelled_set};
-ghost use Rattle.sc_print.specs.Marks.{lexemes_of_marks};
+ghost use Rattle.sc_print.specs.Marks.{lexemes_of_marks, text_of_marks};
 ghost use Rattle.sc_print.specs.Models.{spelled_policy, spelled_spec};
-ghost use Rattle.sc_spelling.specs.Reprinted.{AreOf, AreTokens, IsReprinted, lexeme};
+ghost use Rattle.sc_spelling.specs.Reprinted.{AreOf, AreTokens, IsPrinted, IsReprinted, lexeme};
+
+/// The canonical text of a policy, a specification or a script that a text spells within the limits is a
+/// text that spells it again, offsets aside, within the limits.
+pub fn printed_texts_spell()
+    ensures policies { (text : List ℕ) (x : Policy) → IsTextOf policy_form text x →
+        IsPrinted policy_form stripped_policy x (text_of_marks (spelled_policy x)) }
+    ensures specifications { (text : List ℕ) (x : Spec) → IsSpecText text x →
+        IsPrinted spec_form stripped_spec x (text_of_marks (spelled_spec x)) }
+    ensures scripts { (text : List ℕ) (x : Script) → IsScriptText text x →
+        IsPrinted script_form stripped_script x (text_of_marks (spelled_script x)) }
+{}
 
 /// The canonical spelling of an expression, a set or a policy that tokens spell within the limits spells
 /// it again, offsets aside, within the limits and with no more tokens.

@@ -6,4 +6,6 @@
 
 mod laws;
 
-pub use laws::{parentheses_are_needed, policies_are_reprinted, texts_are_reprinted};
+pub use laws::{
+    parentheses_are_needed, policies_are_reprinted, printed_texts_spell, texts_are_reprinted,
+};
