@@ -1,3 +1,3 @@
 pub mod Joined
 pub mod Loops
-pub mod Texts
+pub mod Parts

@@ -64,3 +64,29 @@ lines_step f (y ∷ xs) zero x out whole within is w =
 lines_step f (y ∷ xs) (suc i) x out whole within is w =
     let same : suc (i + 1) ≡ suc i + 1 = omega arith in
     subst (λ n. AreLeft f (drop n (y ∷ xs)) (out ++ f x) whole) same (lines_step f xs i x out whole (omega arith) is w)
+
+-- So far `out` is written, and with the marks of what is left it will be `whole`.
+pub record AreLines {A : Type 0} (f : A → List Mark) (left : List A) (out whole : List ℕ) : Type 0 where
+  pub goes_on : out ++ text_of_marks (flat_map f left) ≡ whole
+
+pub marks_begin : {A : Type 0} (f : A → List Mark) (xs : List A) (out : List ℕ) → AreLines f xs out (out ++ text_of_marks (flat_map f xs))
+marks_begin f xs out = record { goes_on = refl }
+
+pub marks_done : {A : Type 0} (f : A → List Mark) (xs : List A) (i : ℕ) (out whole : List ℕ) → length xs ≤ i → AreLines f (drop i xs) out whole → out ≡ whole
+marks_done f [] zero out whole over w = sym (append-nil out) ∙ w.goes_on
+marks_done f [] (suc i) out whole over w = sym (append-nil out) ∙ w.goes_on
+marks_done f (x ∷ xs) zero out whole over w = absurd (omega arith)
+marks_done f (x ∷ xs) (suc i) out whole over w = marks_done f xs i out whole (omega arith) w
+
+pub marks_step : {A : Type 0} (f : A → List Mark) (xs : List A) (i : ℕ) (x : A) (out whole : List ℕ) → i < length xs → x ≡ get_or xs i x
+    → AreLines f (drop i xs) out whole → AreLines f (drop (i + 1) xs) (out ++ text_of_marks (f x)) whole
+marks_step f [] i x out whole within is w = absurd (omega arith)
+marks_step f (y ∷ xs) zero x out whole within is w =
+    record {
+      goes_on =
+          append_assoc out (text_of_marks (f x)) (text_of_marks (flat_map f xs)) ∙ ap (λ z. out ++ (text_of_marks (f z) ++ text_of_marks (flat_map f xs))) is
+          ∙ ap (λ z. out ++ z) (sym (text-append (f y) (flat_map f xs))) ∙ w.goes_on;
+    }
+marks_step f (y ∷ xs) (suc i) x out whole within is w =
+    let same : suc (i + 1) ≡ suc i + 1 = omega arith in
+    subst (λ n. AreLines f (drop n (y ∷ xs)) (out ++ text_of_marks (f x)) whole) same (marks_step f xs i x out whole (omega arith) is w)

@@ -1,3 +1,5 @@
+pub mod Commands
 pub mod Exprs
 pub mod Marks
+pub mod Models
 pub mod Public

@@ -32,6 +32,10 @@ lexemes_of_marks (written lexeme ∷ marks) = lexeme ∷ lexemes_of_marks marks
 abbrev pub sp : Mark
 sp = blank (codes " ")
 
+-- the end of a line
+abbrev pub newline : Mark
+newline = blank (10 ∷ [])
+
 abbrev pub sign : TokenKind → Mark
 sign kind = written (record { kind = kind; bytes = sign_of kind })
 

@@ -5,4 +5,5 @@ pub mod Levels
 pub mod LiteralValue
 pub mod Placed
 pub mod Public
+pub mod Stripped
 pub mod Texts

@@ -4,7 +4,7 @@ use Rattle.sc_print.specs.Exprs.{commas, spelled_expr, spelled_filter, spelled_i
 use Rattle.sc_print.specs.Marks.{text_of_marks}
 use Rattle.sc_print.proofs.Joined.{text-append, at_least_more, container_more}
 use Rattle.sc_print.proofs.Loops.{commas_begin, commas_step, commas_done}
-use Rattle.sc_print.proofs.Texts.{Filter_text, One_text, Path_text, container_tight, at_least_tight, SomeLit_text, Get_text, Cmp_text, Member_text, Not_text, And_text, Or_text, IfE_text, MatchE_text, List_text, Sum_text, Less_text, Find_text, MapS_text, FlatS_text, IfS_text, MatchS_text}
+use Rattle.sc_print.proofs.Parts.{Filter_text, One_text, Path_text, container_tight, at_least_tight, SomeLit_text, Get_text, Cmp_text, Member_text, Not_text, And_text, Or_text, IfE_text, MatchE_text, List_text, Sum_text, Less_text, Find_text, MapS_text, FlatS_text, IfS_text, MatchS_text}
 use Rattle.sc_print.proofs.printer.Printer.+print.Goals as goal
 
 pub expr-returns-in_ok-put-in-SomeLit-2 : goal.expr-returns-in_ok-put-in-SomeLit-2

@@ -1,0 +1,44 @@
+-- What is printed of expressions and sets spells them, at any number of levels.
+use Rattle.std.proofs.Common.{inl, inr, ℕ, zero, suc, arith, length}
+use Rattle.sc_tree.specs.declared.exprs.Expr.{Expr}
+use Rattle.sc_tree.specs.declared.exprs.SetExpr.{SetExpr}
+use Rattle.sc_tree.specs.Levels.{SpellsPart}
+use Rattle.sc_tree.specs.ExprGrammar.{rule}
+use Rattle.sc_print.specs.Exprs.{spelled_expr, spelled_set}
+use Rattle.sc_spelling.proofs.Canonical.{moved}
+use Rattle.sc_spelling.proofs.More.{level_more, spells_more}
+use Rattle.sc_spelling.proofs.Ranks.{Tight, down, form_at, tight_of}
+use Rattle.sc_spelling.proofs.SetRanks.{Firm, Knows, fields, firm_at, firm_of, set_form_at}
+use Rattle.sc_spelling.proofs.ExprRule.{expression_held}
+use Rattle.sc_spelling.proofs.SetRule.{set_rule_held}
+use Rattle.sc_spelling.proofs.Tokens.{Pieces}
+
+-- the parts with so many levels
+abbrev pub at_level : ℕ → Pieces
+at_level n = SpellsPart rule n
+
+tight_more : (n : ℕ) (x : Expr) (most : ℕ) → Tight (at_level n) x most → Tight (at_level (suc n)) x most
+tight_more n x most t =
+    moved (λ y. y) (λ y r. r) (λ y ls d. spells_more (at_level n) (at_level (suc n)) (level_more rule n) (form_at (spelled_expr x).rank) y ls d) t
+
+firm_more : (n : ℕ) (x : SetExpr) (most : ℕ) → Firm (at_level n) x most → Firm (at_level (suc n)) x most
+firm_more n x most (inl b) =
+    inl (record {
+      inner = b.inner;
+      place = b.place;
+      is = b.is;
+      reads = moved (λ y. y) (λ y r. r) (λ y ls d. spells_more (at_level n) (at_level (suc n)) (level_more rule n) fields y ls d) b.reads;
+    })
+firm_more n x most (inr (low, t)) =
+    inr (low, moved (λ y. y) (λ y r. r) (λ y ls d. spells_more (at_level n) (at_level (suc n)) (level_more rule n) (set_form_at (spelled_set x).rank) y ls d) t)
+
+pub knows : (n : ℕ) → Knows (at_level n)
+knows zero = record { expr = λ x ls good h. absurd h; set = λ x ls good h. absurd h }
+knows (suc n) = record {
+  expr = λ x ls good h. (
+      let t : Tight (at_level n) x (length ls) = tight_of (at_level n) 0 x (length ls) (expression_held (at_level n) (knows n) x ls good h) in
+      (tight_more n x (length ls) t, moved (λ y. y) (λ y r. r) (λ y ks d. down (at_level n) 0 (spelled_expr x).rank (omega arith) y ks d) t));
+  set = λ x ls good h. (
+      let t : Firm (at_level n) x (length ls) = firm_of (at_level n) 0 x (length ls) (set_rule_held (at_level n) (knows n) x ls good h) in
+      (firm_more n x (length ls) t, moved (λ y. y) (λ y r. r) (λ y ks d. d) (firm_at (at_level n) 0 (omega arith) x (length ls) (omega arith) t)));
+}

@@ -1,0 +1,73 @@
+//! What holds of the canonical spellings of any trees.
+
+ghost use Rattle.std.specs.Prelude.{ℕ, List, length, map, ◌≡◌, ◌≤◌, ◌++◌, ◌∷◌};
+ghost use Rattle.sc_lexer.specs.Lexeme.{Lexeme};
+ghost use Rattle.sc_ast.specs.Pieces.{Piece};
+ghost use Rattle.sc_tree.specs.declared.exprs.Expr.{Expr};
+ghost use Rattle.sc_tree.specs.declared.exprs.SetExpr.{SetExpr};
+ghost use Rattle.sc_tree.specs.declared.policies.Policy.{Policy};
+ghost use Rattle.sc_tree.specs.ExprGrammar.{Expression, Set};
+ghost use Rattle.sc_tree.specs.Forms.{part};
+ghost use Rattle.sc_tree.specs.declared.commands.Script.{Script};
+ghost use Rattle.sc_tree.specs.declared.models.Spec.{Spec};
+ghost use Rattle.sc_tree.specs.Grammar.{policy_form, script_form, spec_form};
+ghost use Rattle.sc_tree.specs.Stripped.{stripped_expr, stripped_policy, stripped_script, stripped_set, stripped_spec};
+ghost use Rattle.sc_tree.specs.Texts.{IsScriptText, IsSpecText, IsSpelled, IsTextOf};
+ghost use Rattle.sc_print.specs.Commands.{spelled_script};
+ghost use Rattle.sc_print.specs.Exprs.{spelled_expr, spelled_set};
+ghost use Rattle.sc_print.specs.Marks.{lexemes_of_marks, text_of_marks};
+ghost use Rattle.sc_print.specs.Models.{spelled_policy, spelled_spec};
+ghost use Rattle.sc_spelling.specs.Reprinted.{AreOf, AreTokens, IsPrinted, IsReprinted, lexeme};
+
+/// The canonical text of a policy, a specification or a script that a text spells within the limits is a
+/// text that spells it again, offsets aside, within the limits.
+pub fn printed_texts_spell()
+    ensures policies { (text : List ℕ) (x : Policy) → IsTextOf policy_form text x →
+        IsPrinted policy_form stripped_policy x (text_of_marks (spelled_policy x)) }
+    ensures specifications { (text : List ℕ) (x : Spec) → IsSpecText text x →
+        IsPrinted spec_form stripped_spec x (text_of_marks (spelled_spec x)) }
+    ensures scripts { (text : List ℕ) (x : Script) → IsScriptText text x →
+        IsPrinted script_form stripped_script x (text_of_marks (spelled_script x)) }
+{}
+
+/// The canonical spelling of an expression, a set or a policy that tokens spell within the limits spells
+/// it again, offsets aside, within the limits and with no more tokens.
+pub fn policies_are_reprinted()
+    ensures expressions { (x : Expr) (ls ks : List Piece) →
+        AreTokens ls → IsSpelled (part Expression) x ls → AreOf (spelled_expr x).marks ks →
+        IsReprinted (part Expression) stripped_expr x (length ls) ks }
+    ensures sets { (x : SetExpr) (ls ks : List Piece) →
+        AreTokens ls → IsSpelled (part Set) x ls → AreOf (spelled_set x).marks ks →
+        IsReprinted (part Set) stripped_set x (length ls) ks }
+    ensures policies { (x : Policy) (ls ks : List Piece) →
+        AreTokens ls → IsSpelled policy_form x ls → AreOf (spelled_policy x) ks →
+        IsReprinted policy_form stripped_policy x (length ls) ks }
+{}
+
+/// The canonical spelling of a specification or a script that tokens spell within the limits spells it
+/// again, offsets aside, within the limits.
+pub fn texts_are_reprinted()
+    ensures specifications { (x : Spec) (ls ks : List Piece) →
+        AreTokens ls → IsSpelled spec_form x ls → AreOf (spelled_spec x) ks →
+        IsReprinted spec_form stripped_spec x (length ks) ks }
+    ensures scripts { (x : Script) (ls ks : List Piece) →
+        AreTokens ls → IsSpelled script_form x ls → AreOf (spelled_script x) ks →
+        IsReprinted script_form stripped_script x (length ks) ks }
+{}
+
+/// A spelling of an equal tree, offsets aside, has no fewer tokens than the canonical one. So leaving out
+/// two of its lexemes, as a pair of parentheses, spells another tree or none.
+pub fn parentheses_are_needed()
+    ensures fewest { (x y : Policy) (ls : List Piece) →
+        AreTokens ls → IsSpelled policy_form y ls → stripped_policy y ≡ stripped_policy x →
+        length (lexemes_of_marks (spelled_policy x)) ≤ length ls }
+    ensures expressions { (x y : Expr) (a b c : List Lexeme) (left right : Lexeme) (ls : List Piece) →
+        lexemes_of_marks (spelled_expr x).marks ≡ a ++ left ∷ (b ++ right ∷ c) → map lexeme ls ≡ a ++ (b ++ c) →
+        AreTokens ls → IsSpelled (part Expression) y ls → ¬ (stripped_expr y ≡ stripped_expr x) }
+    ensures sets { (x y : SetExpr) (a b c : List Lexeme) (left right : Lexeme) (ls : List Piece) →
+        lexemes_of_marks (spelled_set x).marks ≡ a ++ left ∷ (b ++ right ∷ c) → map lexeme ls ≡ a ++ (b ++ c) →
+        AreTokens ls → IsSpelled (part Set) y ls → ¬ (stripped_set y ≡ stripped_set x) }
+    ensures policies { (x y : Policy) (a b c : List Lexeme) (left right : Lexeme) (ls : List Piece) →
+        lexemes_of_marks (spelled_policy x) ≡ a ++ left ∷ (b ++ right ∷ c) → map lexeme ls ≡ a ++ (b ++ c) →
+        AreTokens ls → IsSpelled policy_form y ls → ¬ (stripped_policy y ≡ stripped_policy x) }
+{}

@@ -1,0 +1,11 @@
+//! What holds of canonical spellings.
+//!
+//! The canonical spelling of a tree spells that tree, offsets aside, within the limits that any spelling
+//! of it keeps. No spelling of an expression, a set or a policy has fewer tokens.
+#![tactic(auto)]
+
+mod laws;
+
+pub use laws::{
+    parentheses_are_needed, policies_are_reprinted, printed_texts_spell, texts_are_reprinted,
+};

@@ -1,0 +1,157 @@
+-- Trees without their places: two trees are equal, offsets aside, where what is left of them is equal.
+use Rattle.std.specs.Prelude.{ℕ, zero, List, map, Option, Some, None}
+use Rattle.sc_tree.specs.declared.named.Named.{Named}
+use Rattle.sc_tree.specs.declared.named.Reason.{Reason}
+use Rattle.sc_tree.specs.declared.exprs.Expr.{Expr}
+use Rattle.sc_tree.specs.declared.exprs.Expr.TheVariants as e
+use Rattle.sc_tree.specs.declared.exprs.Expr.TheOpen.{Expr-F, SetExpr-F, Item-F, Filter-F}
+use Rattle.sc_tree.specs.declared.exprs.Expr.TheFolds.{fold-Expr, fold-SetExpr, fold-Item, fold-Filter}
+use Rattle.sc_tree.specs.declared.exprs.SetExpr.{SetExpr}
+use Rattle.sc_tree.specs.declared.exprs.SetExpr.TheVariants as s
+use Rattle.sc_tree.specs.declared.exprs.Item.{Item}
+use Rattle.sc_tree.specs.declared.exprs.Item.TheVariants as item
+use Rattle.sc_tree.specs.declared.exprs.Filter.{Filter, roll-Filter}
+use Rattle.sc_tree.specs.declared.policies.Policy.{Policy}
+use Rattle.sc_tree.specs.declared.policies.Policy.TheVariants as policy
+use Rattle.sc_tree.specs.declared.policies.Init.{Init}
+use Rattle.sc_tree.specs.declared.policies.Init.TheVariants as init
+use Rattle.sc_tree.specs.declared.models.Base.{Base}
+use Rattle.sc_tree.specs.declared.models.Base.TheVariants as base
+use Rattle.sc_tree.specs.declared.models.Ty.{Ty}
+use Rattle.sc_tree.specs.declared.models.Ty.TheVariants as ty
+use Rattle.sc_tree.specs.declared.models.FieldDef.{FieldDef}
+use Rattle.sc_tree.specs.declared.models.ModelDef.{ModelDef}
+use Rattle.sc_tree.specs.declared.models.Spec.{Spec}
+use Rattle.sc_tree.specs.declared.commands.Command.{Command}
+use Rattle.sc_tree.specs.declared.commands.Command.TheVariants as command
+use Rattle.sc_tree.specs.declared.commands.Script.{Script}
+use Rattle.sc_tree.specs.Placed.{ExprLayer, SetLayer}
+
+abbrev pub stripped_name : Named → Named
+stripped_name x = record { name = x.name; at = 0 }
+
+abbrev pub stripped_reason : Reason → Reason
+stripped_reason r = record { text = r.text; at = 0 }
+
+-- ---- one level, of which the parts are stripped
+
+abbrev pub expr_level : ExprLayer → Expr
+expr_level (Expr-F.Flag value at) = e.Flag value 0
+expr_level (Expr-F.Num value at) = e.Num value 0
+expr_level (Expr-F.Str text at) = e.Str text 0
+expr_level (Expr-F.Var x at) = e.Var (stripped_name x) 0
+expr_level (Expr-F.NoneLit at) = e.NoneLit 0
+expr_level (Expr-F.SomeLit inner at) = e.SomeLit inner 0
+expr_level (Expr-F.Get of field at) = e.Get of (stripped_name field) 0
+expr_level (Expr-F.Cmp op left right at) = e.Cmp op left right 0
+expr_level (Expr-F.Member of set at) = e.Member of set 0
+expr_level (Expr-F.Not inner at) = e.Not inner 0
+expr_level (Expr-F.And left right at) = e.And left right 0
+expr_level (Expr-F.Or left right at) = e.Or left right 0
+expr_level (Expr-F.IfE test one other at) = e.IfE test one other 0
+expr_level (Expr-F.MatchE of none x some at) = e.MatchE of none (stripped_name x) some 0
+
+abbrev pub item_level : Item-F Expr Item SetExpr Filter → Item
+item_level (Item-F.Static x) = item.Static (stripped_name x)
+item_level (Item-F.One x) = item.One x
+
+abbrev pub filter_level : Filter-F Expr Item SetExpr Filter → Filter
+filter_level f = roll-Filter (record { field = stripped_name f.field; op = f.op; value = f.value })
+
+abbrev pub set_level : SetLayer → SetExpr
+set_level (SetExpr-F.Everyone word at) = s.Everyone 0 0
+set_level (SetExpr-F.Nobody at) = s.Nobody 0
+set_level (SetExpr-F.List items at) = s.List items 0
+set_level (SetExpr-F.Sum left right at) = s.Sum left right 0
+set_level (SetExpr-F.Less left right at) = s.Less left right 0
+set_level (SetExpr-F.Find model filters at) = s.Find (stripped_name model) filters 0
+set_level (SetExpr-F.Path path at) = s.Path path 0
+set_level (SetExpr-F.MapS of x each at) = s.MapS of (stripped_name x) each 0
+set_level (SetExpr-F.FlatS of x each at) = s.FlatS of (stripped_name x) each 0
+set_level (SetExpr-F.IfS test one other at) = s.IfS test one other 0
+set_level (SetExpr-F.MatchS of none x some at) = s.MatchS of none (stripped_name x) some 0
+
+-- ---- whole trees
+
+abbrev pub stripped_expr : Expr → Expr
+stripped_expr = fold-Expr Expr Item SetExpr Filter expr_level item_level set_level filter_level
+
+abbrev pub stripped_set : SetExpr → SetExpr
+stripped_set = fold-SetExpr Expr Item SetExpr Filter expr_level item_level set_level filter_level
+
+abbrev pub stripped_item : Item → Item
+stripped_item = fold-Item Expr Item SetExpr Filter expr_level item_level set_level filter_level
+
+abbrev pub stripped_filter : Filter → Filter
+stripped_filter = fold-Filter Expr Item SetExpr Filter expr_level item_level set_level filter_level
+
+abbrev pub stripped_policy : Policy → Policy
+stripped_policy (policy.Everyone at) = policy.Everyone 0
+stripped_policy (policy.Nobody at) = policy.Nobody 0
+stripped_policy (policy.Fun x set) = policy.Fun (stripped_name x) (stripped_set set)
+
+abbrev pub stripped_init : Init → Init
+stripped_init (init.Plain x) = init.Plain (stripped_expr x)
+stripped_init (init.OfSet set) = init.OfSet (stripped_set set)
+
+-- ---- specifications
+
+abbrev pub stripped_base : Base → Base
+stripped_base (base.Bool at) = base.Bool 0
+stripped_base (base.Int at) = base.Int 0
+stripped_base (base.Text at) = base.Text 0
+stripped_base (base.Id model at) = base.Id (stripped_name model) 0
+
+abbrev pub stripped_type : Ty → Ty
+stripped_type (ty.Plain base) = ty.Plain (stripped_base base)
+stripped_type (ty.Set model at) = ty.Set (stripped_name model) 0
+stripped_type (ty.Opt base at) = ty.Opt (stripped_base base) 0
+
+abbrev pub stripped_field : FieldDef → FieldDef
+stripped_field f = record {
+  name = stripped_name f.name;
+  ty = stripped_type f.ty;
+  read = stripped_policy f.read;
+  write = stripped_policy f.write;
+}
+
+abbrev pub stripped_model : ModelDef → ModelDef
+stripped_model m = record {
+  principal = m.principal;
+  name = stripped_name m.name;
+  create = stripped_policy m.create;
+  delete = stripped_policy m.delete;
+  fields = map stripped_field m.fields;
+  at = 0;
+}
+
+abbrev pub stripped_spec : Spec → Spec
+stripped_spec s = record { statics = map stripped_name s.statics; models = map stripped_model s.models }
+
+-- ---- scripts
+
+-- a right that may be given
+abbrev pub stripped_right : Option Policy → Option Policy
+stripped_right None = None
+stripped_right (Some policy) = Some (stripped_policy policy)
+
+abbrev pub stripped_command : Command → Command
+stripped_command (command.CreateModel model at) = command.CreateModel (stripped_model model) 0
+stripped_command (command.DeleteModel model at) = command.DeleteModel (stripped_name model) 0
+stripped_command (command.AddStatic static at) = command.AddStatic (stripped_name static) 0
+stripped_command (command.RemoveStatic static at) = command.RemoveStatic (stripped_name static) 0
+stripped_command (command.AddPrincipal model at) = command.AddPrincipal (stripped_name model) 0
+stripped_command (command.AddField model field x init at) =
+    command.AddField (stripped_name model) (stripped_field field) (stripped_name x) (stripped_init init) 0
+stripped_command (command.RemoveField model field at) = command.RemoveField (stripped_name model) (stripped_name field) 0
+stripped_command (command.UpdateFieldPolicy model field read write at) =
+    command.UpdateFieldPolicy (stripped_name model) (stripped_name field) (stripped_right read) (stripped_right write) 0
+stripped_command (command.WeakenFieldPolicy model field read write reason at) =
+    command.WeakenFieldPolicy (stripped_name model) (stripped_name field) (stripped_right read) (stripped_right write) (stripped_reason reason) 0
+stripped_command (command.UpdatePolicy model create delete at) =
+    command.UpdatePolicy (stripped_name model) (stripped_right create) (stripped_right delete) 0
+stripped_command (command.WeakenPolicy model create delete reason at) =
+    command.WeakenPolicy (stripped_name model) (stripped_right create) (stripped_right delete) (stripped_reason reason) 0
+
+abbrev pub stripped_script : Script → Script
+stripped_script s = record { commands = map stripped_command s.commands }
