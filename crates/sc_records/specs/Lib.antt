@@ -1,0 +1,4 @@
+pub mod Codes
+pub mod Public
+pub mod Rising
+pub mod Views
