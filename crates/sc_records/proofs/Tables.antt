@@ -1,13 +1,18 @@
 -- Look-up in the plain data of tables.
-use Rattle.std.proofs.Common.{◌≡◌, ℕ, Bool, true, false, ◌||◌, List, [], ◌∷◌, refl, ap, sym, subst, cond, map}
+use Rattle.std.proofs.Common.{◌≡◌, ℕ, Bool, true, false, ◌||◌, List, [], ◌∷◌, refl, ap, sym, subst, cond, arith, length, map}
 use Rattle.std.specs.Prelude.{Option, Some, None, ◌==◌, is_some}
-use Rattle.std.specs.List.{find, list_any, AllByRecursion}
+use Rattle.std.specs.List.{find, list_any, sum_by, AllByRecursion}
 use Rattle.std.specs.List.Sorted.{IsStrictlyIncreasing}
 use Rattle.std.specs.Option.{option_map, option_map_or}
-use Rattle.sc_data.specs.Database.{Record, records_of}
+use Rattle.std.proofs.lemmas.List.Sums.{sum_by-cons}
+use Rattle.sc_schema.specs.Schema.{ModelInfo}
+use Rattle.sc_data.specs.Database.{Record, Table, records_of}
 use Rattle.sc_records.specs.declared.record.Record as code_record
 use Rattle.sc_records.specs.declared.table.Table as code_table
 use Rattle.sc_records.specs.Views.{record_data, table_data}
+use Rattle.sc_records.specs.Inserted.{empty_table, next_of}
+use Rattle.sc_records.specs.Kept.{IsKept}
+use Rattle.sc_records.specs.Room.{record_weight}
 use Rattle.sc_records.specs.Rising.{AreRising}
 use Rattle.sc_records.proofs.Searches.{find-seen}
 
@@ -49,3 +54,24 @@ any-found id (r ∷ rs) =
 pub is-some-seen : {A B : Type 0} (f : A → B) (o : Option A) → is_some (option_map f o) ≡ is_some o
 is-some-seen f None = refl
 is-some-seen f (Some x) = refl
+
+pub next-seen : (ts : List code_table.Table) (m : ℕ) (o : Option code_table.Table) → o ≡ find (λ t. t.model == m) ts
+    → next_of (map table_data ts) m ≡ option_map_or (λ t. t.next) o 1
+next-seen ts m o e = rw (find-seen (λ t. t.model == m) table_data ts, ← e) (go o)
+  where
+    go : (o : Option code_table.Table) → option_map_or (λ t. t.next) (option_map table_data o) 1 ≡ option_map_or (λ t. t.next) o 1
+    go None = refl
+    go (Some t) = refl
+
+-- ---- tables without records
+
+pub empty-kept : (infos : List ModelInfo) → IsKept 0 0 (map empty_table infos)
+empty-kept [] = record { rising = tt; given = tt; counted = refl; weighed = refl }
+empty-kept (info ∷ infos) =
+    let rest = empty-kept infos in
+    record {
+      rising = ((λ k below. absurd (omega arith)), rest.rising);
+      given = (tt, rest.given);
+      counted = omega (arith, rest.counted, sum_by-cons (λ (t : Table). length t.records) (empty_table info) (map empty_table infos));
+      weighed = omega (arith, rest.weighed, sum_by-cons (λ (t : Table). sum_by record_weight t.records) (empty_table info) (map empty_table infos));
+    }
