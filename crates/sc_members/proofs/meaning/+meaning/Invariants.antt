@@ -1,0 +1,32 @@
+use Rattle.std.proofs.Common.{◌≡◌, ◌++◌, ◌∷◌, [], map, take, drop, false}
+use Rattle.std.specs.Prelude.{filter}
+use Rattle.std.specs.List.{list_any}
+use Rattle.sc_schema.specs.Views as view
+use Rattle.sc_data.specs.Values as stored
+use Rattle.sc_data.specs.declared.principals.Principal.TheVariants.{Rec}
+use Rattle.sc_eval.specs.Meaning as meaning
+use Rattle.sc_members.specs.Variables.{env_data}
+use Rattle.sc_members.proofs.meaning.+meaning.Given as goal
+
+abbrev pub invariant-holds_at-loop-id : goal.invariant-holds_at-loop-id
+invariant-holds_at-loop-id l =
+    list_any (λ y. meaning.member l.database (env_data l.env ++ stored.Id y ∷ []) (view.set_of l.set) l.who) (take l.id-index l.ids) ≡ false
+
+abbrev pub invariant-ids_within-loop-record : goal.invariant-ids_within-loop-record
+invariant-ids_within-loop-record l =
+    l.found.items ≡ filter (λ y. meaning.member l.database (env_data l.env) (view.set_of l.set) (Rec l.m y)) (map (λ r. r.id) (take l.record-index l.record-items))
+
+-- whether the principal is one of the items is settled by those that are left
+abbrev pub invariant-is_listed-loop-item : goal.invariant-is_listed-loop-item
+invariant-is_listed-loop-item l =
+    meaning.is_listed l.database (env_data l.env) (view.items_of (map view.item_of (drop l.item-index l.items))) l.who
+    ≡ meaning.is_listed l.database (env_data l.env) (view.items_of (map view.item_of l.items)) l.who
+
+abbrev pub invariant-maps_to-loop-id : goal.invariant-maps_to-loop-id
+invariant-maps_to-loop-id l =
+    list_any (λ y. meaning.is_record l.m (meaning.value_of l.database (env_data l.env ++ stored.Id y ∷ []) (view.expr_of l.e)) l.who) (take l.id-index l.ids) ≡ false
+
+abbrev pub invariant-meets-loop-filter : goal.invariant-meets-loop-filter
+invariant-meets-loop-filter l =
+    meaning.meets l.database (env_data l.env) l.m (view.filters_of (map view.filter_of (drop l.filter-index l.filters))) l.id
+    ≡ meaning.meets l.database (env_data l.env) l.m (view.filters_of (map view.filter_of l.filters)) l.id

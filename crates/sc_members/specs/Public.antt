@@ -1,0 +1,1 @@
+-- The public contracts speak in the words of `sc_eval`, `sc_schema` and `sc_records`.

@@ -1,0 +1,12 @@
+use Rattle.std.proofs.Common.{refl}
+use Rattle.std.specs.Option.{option_copied}
+use Rattle.sc_records.proofs.Tables.{records-seen}
+use Rattle.sc_records.proofs.database.Database.records.Goals as goal
+
+pub returns-in-Some : goal.returns-in-Some
+returns-in-Some c =
+    rw (← c.self.view_is, ← c.as_slice.ensures.value, records-seen c.as_slice.result.now c.args.m (option_copied c.table_in.result) c.table_in.ensures, c.in-Some.is, c.as_slice-in-Some.ensures.value) refl
+
+pub returns-in-None : goal.returns-in-None
+returns-in-None c =
+    rw (← c.self.view_is, ← c.as_slice.ensures.value, records-seen c.as_slice.result.now c.args.m (option_copied c.table_in.result) c.table_in.ensures, c.in-None.is) refl

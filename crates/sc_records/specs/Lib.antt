@@ -1,0 +1,9 @@
+pub mod Codes
+pub mod Inserted
+pub mod Kept
+pub mod Public
+pub mod Rising
+pub mod Room
+pub mod Rows
+pub mod Shape
+pub mod Views

@@ -1,0 +1,6 @@
+-- The words that speak of the values and databases of the code, and of how they are changed.
+pub use Rattle.sc_records.specs.Views.{value_data, slot_data, record_data, table_data}
+pub use Rattle.sc_records.specs.Shape.{IsShape, dangling_in}
+pub use Rattle.sc_records.specs.Rows.{AreShaped, IsFirstWrong, AreAllThere, IsFirstDangling, slots_from}
+pub use Rattle.sc_records.specs.Room.{weight_of, record_count, total_weight, HasRoom}
+pub use Rattle.sc_records.specs.Inserted.{empty_of, with_row, IsAdmitted, IsRefused, Inserts}

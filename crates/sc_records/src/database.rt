@@ -1,0 +1,240 @@
+//! Databases.
+
+ghost use Rattle.std.specs.Prelude.{◌≡◌, ◌==◌, ◌-◌, ◌<◌, length, map, option_copied, position, IfErr, IfOk, OnErr, OnOk};
+ghost use Rattle.std.specs.List.{find};
+ghost use Rattle.std.specs.Option.{option_map};
+ghost use Rattle.sc_data.specs.Database.{records_of, slots_of, has_record};
+ghost use Rattle.sc_records.specs.Inserted.{Inserts, IsAdmitted, IsRefused, change_table, empty_of, empty_table, next_of, with_record};
+ghost use Rattle.sc_records.specs.Room.{HasRoom, most_records, most_weight, record_count, record_weight, row_weight, total_weight};
+ghost use Rattle.sc_records.specs.Views.{record_data, table_data, value_data};
+ghost use Rattle.sc_schema.specs.SchemaViews.{model_info_of, schema_of};
+
+use crate::data_err::{DataErr, Limit};
+use crate::record::Record;
+use crate::rows::{first_dangling, first_wrong, push_slots};
+use crate::shape::Coming;
+use crate::table::{Table, record_in};
+use crate::value::Value;
+use crate::weights::without_row;
+use sc_schema::{FieldNo, ModelInfo, ModelNo, Schema};
+use sqlite_items::Items;
+use std::alloc::{AllocError, Global};
+use std::marker::Model;
+
+/// How many records a database holds at most.
+const MOST_RECORDS: usize = 20_000;
+
+/// How much a database weighs at most.
+const MOST_WEIGHT: u64 = 33_554_432;
+
+/// The last id of a record.
+const LAST_ID: u64 = 9_223_372_036_854_775_806;
+
+/// A database: for each model its records by rising id. Contracts see its tables.
+#[derive(Drop)]
+pub struct Database {
+    tables: Vec<Table>,
+    count: usize,
+    weight: u64,
+}
+
+impl Model for Database {
+    ghost use Rattle.std.specs.Prelude.{List, map};
+    ghost use Rattle.sc_data.specs.Database as plain;
+    ghost use Rattle.sc_records.specs.Codes.{database_code};
+
+    ghost Value = { List plain.Table };
+
+    ghost coded = { database_code };
+
+    ghost use Rattle.sc_records.specs.Views.{table_data};
+    ghost use Rattle.sc_records.specs.Kept.{IsKept};
+
+    ghost view = { λ d. map table_data d.tables.items };
+
+    ghost invariant = { λ d. IsKept d.count d.weight (map table_data d.tables.items) };
+}
+
+/// The table of a model.
+fn table_in(tables: &[Table], m: ModelNo) -> Option<&Table>
+    ensures { option_copied result ≡ find (λ t. t.model == m) tables.now }
+{
+    tables.iter().find(|table| table.model == m)
+}
+
+impl Database {
+    /// The records of the model, by rising id.
+    pub fn records(&self, m: ModelNo) -> &[Record]
+        ensures { map record_data result.now ≡ records_of self.now m }
+    {
+        match table_in(self.tables.as_slice(), m) {
+            Some(table) => table.records.as_slice(),
+            None => &[],
+        }
+    }
+
+    /// The record of the model with the id, or None where there is none.
+    pub fn get(&self, m: ModelNo, id: u64) -> Option<&Record>
+        ensures { option_map record_data (option_copied result) ≡ find (λ r. r.id == id) (records_of self.now m) }
+    {
+        match table_in(self.tables.as_slice(), m) {
+            Some(table) => record_in(table.records.as_slice(), id),
+            None => None,
+        }
+    }
+
+    /// The value of the field of the record, or None where there is no such record or field.
+    pub fn value(&self, m: ModelNo, id: u64, f: FieldNo) -> Option<&Value>
+        ensures { option_map value_data (option_copied result) ≡ option_map (λ slot. slot.value) (find (λ slot. slot.field == f) (slots_of self.now m id)) }
+    {
+        match self.get(m, id) {
+            Some(record) => record.value(f),
+            None => None,
+        }
+    }
+
+    /// Whether there is a record of the model with the id.
+    pub fn has(&self, m: ModelNo, id: u64) -> bool
+        ensures { result ≡ has_record self.now m id }
+    {
+        self.get(m, id).is_some()
+    }
+}
+
+/// A table without records for each model.
+fn empty_tables(alloc: Global, models: &[ModelInfo]) -> Result<Vec<Table>, AllocError>
+    ensures { IfOk result (λ tables. map table_data tables.items ≡ map empty_table (map model_info_of models.now)) }
+{
+    let mut tables = Vec::new(alloc);
+    for info in models {
+        tables.push(Table {
+            model: info.number,
+            next: 1,
+            records: Vec::new(alloc),
+        })?;
+    }
+    Ok(tables)
+}
+
+/// The place of the table of a model.
+fn place_of(tables: &[Table], m: ModelNo) -> Option<usize>
+    ensures { result ≡ position (λ t. t.model == m) tables.now }
+{
+    tables.iter().position(|table| table.model == m)
+}
+
+impl Database {
+    /// The id that the next record of the model gets.
+    fn next(&self, m: ModelNo) -> u64
+        ensures { result ≡ next_of self.now m }
+    {
+        match table_in(self.tables.as_slice(), m) {
+            Some(table) => table.next,
+            None => 1,
+        }
+    }
+
+    /// How many records there are.
+    fn count(&self) -> usize
+        ensures { result ≡ record_count self.now }
+    {
+        self.count
+    }
+
+    /// How much more it may weigh.
+    fn room(&self) -> u64
+        ensures { result ≡ most_weight - total_weight self.now }
+    {
+        MOST_WEIGHT.saturating_sub(self.weight)
+    }
+
+    /// The weight of the row, or why it is refused.
+    fn admit(&self, info: &ModelInfo, row: &[Value]) -> Result<u64, DataErr>
+        requires { length info.now.fields ≡ length row.now }
+        ensures admitted { OnOk result (IsAdmitted (model_info_of info.now) self.now (map value_data row.now)) }
+        ensures weight { IfOk result (λ weight. weight ≡ row_weight (map value_data row.now)) }
+        ensures refused { IfErr result (IsRefused (model_info_of info.now) self.now (map value_data row.now)) }
+    {
+        let fields = info.fields.as_slice();
+        let next = self.next(info.number);
+        let coming = Coming {
+            model: info.number,
+            id: next,
+        };
+        if let Some(field) = first_wrong(fields, row) {
+            return Err(DataErr::WrongShape { field });
+        }
+        if let Some((field, id)) = first_dangling(self, coming, fields, row) {
+            return Err(DataErr::Dangling { field, id });
+        }
+        if self.count() >= MOST_RECORDS {
+            return Err(DataErr::Full {
+                what: Limit::Records,
+            });
+        }
+        let room = self.room();
+        let Some(left) = without_row(room, row) else {
+            return Err(DataErr::Full {
+                what: Limit::Weight,
+            });
+        };
+        if next > LAST_ID {
+            return Err(DataErr::IdsSpent);
+        }
+        Ok(room - left)
+    }
+
+    /// Puts a record with the next id into the table of the model.
+    fn push(&mut self, m: ModelNo, made: Record, weight: u64) -> Result<(), AllocError>
+        requires id { made.id ≡ next_of self.old m }
+        requires unspent { made.id < 18446744073709551615 }
+        requires weight { weight ≡ record_weight (record_data made) }
+        requires fewer { record_count self.old < most_records }
+        requires room { HasRoom self.old weight }
+        ensures ok { OnOk result (self.new ≡ change_table m (with_record (record_data made)) self.old) }
+        ensures err { OnErr result (self.new ≡ self.old) }
+    {
+        let place = match place_of(self.tables.as_slice(), m) {
+            Some(place) => place,
+            None => return Ok(()),
+        };
+        let table = &mut self.tables[place];
+        table.push(made)?;
+        self.count += 1;
+        self.weight += weight;
+        Ok(())
+    }
+
+    /// A database over the schema, without records.
+    pub fn empty(alloc: Global, s: &Schema) -> Result<Database, AllocError>
+        ensures { IfOk result (λ d. d ≡ empty_of (schema_of s.now)) }
+    {
+        let tables = empty_tables(alloc, s.models.as_slice())?;
+        Ok(Database {
+            tables,
+            count: 0,
+            weight: 0,
+        })
+    }
+
+    /// Inserts a record of the model, with a value for each of its fields, and gives its id.
+    ///
+    /// Refused, in this order: a value that is not of its field's type, an id that names no record
+    /// (the record that is made may name itself), a database that is full, ids that are spent. The
+    /// database is then as it was, and so it is where memory is wanting.
+    pub fn insert(&mut self, alloc: Global, info: &ModelInfo, row: &[Value]) -> Result<u64, DataErr>
+        requires { length info.now.fields ≡ length row.now }
+        ensures { Inserts (model_info_of info.now) self.old (map value_data row.now) result self.new }
+    {
+        let weight = self.admit(info, row)?;
+        let id = self.next(info.number);
+        let mut slots = Vec::new(alloc);
+        push_slots(alloc, &mut slots, info.fields.as_slice(), row)?;
+        let record = Record {
+            id,
+            slots: Items::from_vec(slots),
+        };
+        self.push(info.number, record, weight)?;
+        Ok(id)
+    }
+}

@@ -1,0 +1,29 @@
+//! Databases in memory.
+//!
+//! | module | holds |
+//! |---|---|
+//! | `database` | `Database` |
+//! | `value` | `Value`, what a field holds |
+//! | `record` | `Record`, with a value for each field |
+//! | `data_err` | `DataErr`, why a change is refused |
+//! | `shape`, `rows`, `weights` | which values and rows fit |
+//! | `table` | the records of a model |
+//!
+//! `specs/Views.antt` says which plain data the types stand for.
+#![tactic(auto)]
+
+mod data_err;
+mod database;
+mod record;
+mod rows;
+mod shape;
+mod table;
+#[cfg(test)]
+mod tests;
+mod value;
+mod weights;
+
+pub use data_err::{DataErr, Limit};
+pub use database::Database;
+pub use record::{Record, Slot};
+pub use value::Value;

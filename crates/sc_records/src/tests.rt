@@ -1,0 +1,99 @@
+//! What no clause says: that the calls succeed where there is memory.
+
+ghost use Rattle.std.specs.Prelude.{◌≡◌, IfOk, length};
+
+use crate::{DataErr, Database, Value};
+use sc_ast::{Name, Txt};
+use sc_schema::{FieldInfo, ModelInfo, Schema, TBase, TPolicy, TTy};
+use sqlite_items::{Boxed, Items};
+use std::alloc::Global;
+use std::rc::Rc;
+use std::test::Fail;
+
+fn name(alloc: Global, bytes: &[u8]) -> Result<Name, Fail> {
+    Ok(Name::make(Vec::from_slice(alloc, bytes)?).ok_or("no name")?)
+}
+
+fn text(alloc: Global, bytes: &[u8]) -> Result<Value, Fail> {
+    let text = Txt::make(Vec::from_slice(alloc, bytes)?).ok_or("no text")?;
+    Ok(Value::Str(text))
+}
+
+fn field(alloc: Global, number: u32, word: &[u8], ty: TTy) -> Result<FieldInfo, Fail> {
+    Ok(FieldInfo {
+        number,
+        name: name(alloc, word)?,
+        ty,
+        read: Rc::new(alloc, TPolicy::Nobody)?,
+        write: Rc::new(alloc, TPolicy::Nobody)?,
+    })
+}
+
+/// Users with an email, a manager and perhaps an age.
+fn users(alloc: Global) -> Result<ModelInfo, Fail>
+    ensures { IfOk result (λ info. length info.fields ≡ 3) }
+{
+    let mut fields = Items::new(alloc);
+    fields.push(field(alloc, 0, b"email", TTy::Plain(TBase::Text))?)?;
+    fields.push(field(alloc, 1, b"manager", TTy::Plain(TBase::Id(0)))?)?;
+    fields.push(field(alloc, 2, b"age", TTy::Opt(TBase::Int))?)?;
+    Ok(ModelInfo {
+        number: 0,
+        name: name(alloc, b"User")?,
+        principal: true,
+        create: Rc::new(alloc, TPolicy::Nobody)?,
+        delete: Rc::new(alloc, TPolicy::Nobody)?,
+        fields,
+    })
+}
+
+fn database_of_users(alloc: Global) -> Result<Database, Fail> {
+    let mut models = Items::new(alloc);
+    models.push(users(alloc)?)?;
+    let s = Schema {
+        statics: Items::new(alloc),
+        models,
+        next_static: 0,
+        next_model: 1,
+        next_field: 3,
+        added: Items::new(alloc),
+    };
+    Ok(Database::empty(alloc, &s)?)
+}
+
+#[test]
+fn a_record_may_name_itself(rt: HostRuntime) -> Result<(), Fail> {
+    let alloc = rt.alloc();
+    let info = users(alloc)?;
+    let mut database = database_of_users(alloc)?;
+    let age = Value::Just(Boxed::new(alloc, Value::Num(30))?);
+    let row = [text(alloc, b"a@x")?, Value::Id(1), age];
+    let id = database.insert(alloc, &info, &row)?;
+    assert_eq!(rt; id, 1);
+    assert!(rt; database.has(0, 1));
+    assert!(rt; matches!(database.value(0, 1, 1), Some(Value::Id(1))));
+    assert!(rt; database.get(0, 2).is_none());
+    Ok(())
+}
+
+#[test]
+fn an_id_names_a_record(rt: HostRuntime) -> Result<(), Fail> {
+    let alloc = rt.alloc();
+    let info = users(alloc)?;
+    let mut database = database_of_users(alloc)?;
+    let row = [text(alloc, b"a@x")?, Value::Id(9), Value::Nothing];
+    let answer = database.insert(alloc, &info, &row);
+    assert!(rt; matches!(answer, Err(DataErr::Dangling { field: 1, id: 9 })));
+    Ok(())
+}
+
+#[test]
+fn a_value_is_of_its_type(rt: HostRuntime) -> Result<(), Fail> {
+    let alloc = rt.alloc();
+    let info = users(alloc)?;
+    let mut database = database_of_users(alloc)?;
+    let row = [text(alloc, b"a@x")?, Value::Id(9), Value::Num(30)];
+    let answer = database.insert(alloc, &info, &row);
+    assert!(rt; matches!(answer, Err(DataErr::WrongShape { field: 2 })));
+    Ok(())
+}
