@@ -5,7 +5,7 @@ ghost use Rattle.sc_records.specs.Views.{value_data};
 ghost use Rattle.sc_eval.specs.Meaning as meaning;
 
 use sc_records::Value;
-use sc_schema::{CmpOp, FilterOp};
+use sc_tree::{CmpOp, FilterOp};
 
 /// The truth value that a value is; false of one of another type.
 pub(crate) fn truth(v: &Value) -> bool
