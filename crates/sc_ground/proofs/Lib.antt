@@ -1,0 +1,11 @@
+pub mod AllRounds
+pub mod AppliedTerms
+pub mod Chains
+pub mod Codes
+pub mod Fewer
+pub mod Keepers
+pub mod Marks
+pub mod NeededRounds
+pub mod SameTerms
+pub mod Standing
+pub mod WalkLemmas

@@ -1,0 +1,10 @@
+pub mod Applying
+pub mod Basis
+pub mod Codes
+pub mod Keeping
+pub mod Needed
+pub mod Parts
+pub mod Public
+pub mod Standing
+pub mod TermLists
+pub mod Walk

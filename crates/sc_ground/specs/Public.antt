@@ -1,0 +1,3 @@
+-- The words of this crate's public contracts; the others are those of sc_terms and sc_formula.
+pub use Rattle.sc_ground.specs.Standing.{terms_at}
+pub use Rattle.sc_ground.specs.TermLists.{terms_in}
