@@ -2,7 +2,9 @@
 
 ghost use Rattle.std.specs.List.{flat_map};
 ghost use Rattle.std.specs.Prelude.{◌≡◌, ◌++◌, ◌∷◌, [], OnOk};
-ghost use Rattle.sc_print.specs.Commands.{added, because, command_line, field_rights, given_rights, naming, on_model, rights, spelled_command, spelled_init, spelled_script};
+ghost use Rattle.sc_print.specs.Commands.{added, because, command_line, field_rights, given_rights};
+ghost use Rattle.sc_print.specs.Commands.{naming, on_model, rights, spelled_command, spelled_init};
+ghost use Rattle.sc_print.specs.Commands.{spelled_script};
 ghost use Rattle.sc_print.specs.Marks.{text_of_marks};
 
 use crate::printer::Printer;
@@ -28,7 +30,8 @@ impl Printer {
         first: &Option<Policy>,
         second: &Option<Policy>,
     ) -> Result<(), AllocError>
-        ensures { OnOk result (self.new ≡ self.old ++ text_of_marks (given_rights one.now other.now first.now second.now)) }
+        ensures { OnOk result (self.new
+            ≡ self.old ++ text_of_marks (given_rights one.now other.now first.now second.now)) }
     {
         match (first, second) {
             (None, None) => Ok(()),
@@ -51,7 +54,8 @@ impl Printer {
         first: &Option<Policy>,
         second: &Option<Policy>,
     ) -> Result<(), AllocError>
-        ensures { OnOk result (self.new ≡ self.old ++ text_of_marks (rights one.now other.now first.now second.now)) }
+        ensures { OnOk result (self.new
+            ≡ self.old ++ text_of_marks (rights one.now other.now first.now second.now)) }
     {
         self.put(b"{")?;
         self.given_rights(one, other, first, second)?;
@@ -83,7 +87,8 @@ impl Printer {
 
     /// Writes what a command that adds a field is given.
     fn added(&mut self, field: &FieldDef, x: &Named, init: &Init) -> Result<(), AllocError>
-        ensures { OnOk result (self.new ≡ self.old ++ text_of_marks (added field.now x.now init.now)) }
+        ensures { OnOk result (self.new
+            ≡ self.old ++ text_of_marks (added field.now x.now init.now)) }
     {
         self.field(field)?;
         self.put(b", ")?;
@@ -100,7 +105,8 @@ impl Printer {
         read: &Option<Policy>,
         write: &Option<Policy>,
     ) -> Result<(), AllocError>
-        ensures { OnOk result (self.new ≡ self.old ++ text_of_marks (field_rights field.now read.now write.now)) }
+        ensures { OnOk result (self.new
+            ≡ self.old ++ text_of_marks (field_rights field.now read.now write.now)) }
     {
         self.put(field.name.bytes())?;
         self.put(b", ")?;
@@ -175,7 +181,8 @@ impl Printer {
 
     /// Writes commands, each on a line of its own.
     fn commands(&mut self, commands: &[Command]) -> Result<(), AllocError>
-        ensures { OnOk result (self.new ≡ self.old ++ text_of_marks (flat_map command_line commands.now)) }
+        ensures { OnOk result (self.new
+            ≡ self.old ++ text_of_marks (flat_map command_line commands.now)) }
     {
         for command in commands {
             self.command(command)?;

@@ -1,7 +1,8 @@
 //! Expressions and sets.
 
 ghost use Rattle.std.specs.Prelude.{◌≡◌, ◌++◌, OnOk, map};
-ghost use Rattle.sc_print.specs.Exprs.{at_least, between, cmp_sign, commas, container, filter_sign, spelled_expr, spelled_filter, spelled_item, spelled_set};
+ghost use Rattle.sc_print.specs.Exprs.{at_least, between, cmp_sign, commas, container, filter_sign};
+ghost use Rattle.sc_print.specs.Exprs.{spelled_expr, spelled_filter, spelled_item, spelled_set};
 ghost use Rattle.sc_print.specs.Marks.{text_of_marks};
 
 use crate::printer::Printer;
@@ -69,7 +70,8 @@ impl Printer {
     /// Writes an expression, in parentheses unless it holds together so tightly.
     #[cycle(print)]
     fn expr_within(&mut self, least: u32, e: &Expr) -> Result<(), AllocError>
-        ensures { OnOk result (self.new ≡ self.old ++ text_of_marks (at_least least (spelled_expr e.now))) }
+        ensures { OnOk result (self.new
+            ≡ self.old ++ text_of_marks (at_least least (spelled_expr e.now))) }
     {
         if expr_rank(e) >= least {
             return self.expr(e);
@@ -159,7 +161,8 @@ impl Printer {
     /// Writes the set after `in`: a path as it is, another set in braces.
     #[cycle(print)]
     fn container(&mut self, set: &SetExpr) -> Result<(), AllocError>
-        ensures { OnOk result (self.new ≡ self.old ++ text_of_marks (container (spelled_set set.now))) }
+        ensures { OnOk result (self.new
+            ≡ self.old ++ text_of_marks (container (spelled_set set.now))) }
     {
         if set_rank(set) == 3 {
             return self.set(set);
@@ -173,7 +176,8 @@ impl Printer {
     /// Writes a set, in parentheses unless it holds together so tightly.
     #[cycle(print)]
     fn set_within(&mut self, least: u32, set: &SetExpr) -> Result<(), AllocError>
-        ensures { OnOk result (self.new ≡ self.old ++ text_of_marks (at_least least (spelled_set set.now))) }
+        ensures { OnOk result (self.new
+            ≡ self.old ++ text_of_marks (at_least least (spelled_set set.now))) }
     {
         if set_rank(set) >= least {
             return self.set(set);
@@ -273,7 +277,8 @@ impl Printer {
     /// Writes items with commas between.
     #[cycle(print)]
     fn items(&mut self, items: &[Item]) -> Result<(), AllocError>
-        ensures { OnOk result (self.new ≡ self.old ++ text_of_marks (commas (map spelled_item items.now))) }
+        ensures { OnOk result (self.new
+            ≡ self.old ++ text_of_marks (commas (map spelled_item items.now))) }
     {
         let mut before: &[u8] = b"";
         for item in items {
@@ -298,7 +303,8 @@ impl Printer {
     /// Writes filters with commas between.
     #[cycle(print)]
     fn filters(&mut self, filters: &[Filter]) -> Result<(), AllocError>
-        ensures { OnOk result (self.new ≡ self.old ++ text_of_marks (commas (map spelled_filter filters.now))) }
+        ensures { OnOk result (self.new
+            ≡ self.old ++ text_of_marks (commas (map spelled_filter filters.now))) }
     {
         let mut before: &[u8] = b"";
         for filter in filters {

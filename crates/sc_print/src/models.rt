@@ -5,7 +5,10 @@ ghost use Rattle.std.specs.Prelude.{◌≡◌, ◌++◌, ◌∷◌, [], OnOk, ma
 ghost use Rattle.sc_lexer.specs.declared.token.TokenKind.TheVariants.{Comma};
 ghost use Rattle.sc_print.specs.Exprs.{joined};
 ghost use Rattle.sc_print.specs.Marks.{sign, sp, text_of_marks};
-ghost use Rattle.sc_print.specs.Models.{entry_line, field_line, id_of, model_head, model_lines, principal_mark, right, rights_of_field, spelled_base, spelled_field, spelled_model, spelled_policy, spelled_spec, spelled_type, static_line};
+ghost use Rattle.sc_print.specs.Models.{entry_line, field_line, id_of, model_head, model_lines};
+ghost use Rattle.sc_print.specs.Models.{principal_mark, right, rights_of_field, spelled_base};
+ghost use Rattle.sc_print.specs.Models.{spelled_field, spelled_model, spelled_policy, spelled_spec};
+ghost use Rattle.sc_print.specs.Models.{spelled_type, static_line};
 
 use crate::printer::Printer;
 use sc_tree::{Base, FieldDef, ModelDef, Named, Policy, Spec, Ty};
@@ -125,7 +128,9 @@ impl Printer {
 
     /// Writes fields, each after a comma.
     fn more_fields(&mut self, fields: &[FieldDef]) -> Result<(), AllocError>
-        ensures { OnOk result (self.new ≡ self.old ++ text_of_marks (joined (sign Comma ∷ sp ∷ []) (map spelled_field fields.now))) }
+        ensures { OnOk result (self.new
+            ≡ self.old ++ text_of_marks (joined (sign Comma ∷ sp
+            ∷ []) (map spelled_field fields.now))) }
     {
         for field in fields {
             self.put(b", ")?;
@@ -150,7 +155,8 @@ impl Printer {
 
     /// Writes a right of a model on a line of its own.
     fn right_line(&mut self, word: &[u8], policy: &Policy) -> Result<(), AllocError>
-        ensures { OnOk result (self.new ≡ self.old ++ text_of_marks (entry_line (right word.now policy.now))) }
+        ensures { OnOk result (self.new
+            ≡ self.old ++ text_of_marks (entry_line (right word.now policy.now))) }
     {
         self.put(b"  ")?;
         self.right(word, policy)?;
@@ -170,7 +176,8 @@ impl Printer {
 
     /// Writes fields, each on a line of its own.
     fn field_lines(&mut self, fields: &[FieldDef]) -> Result<(), AllocError>
-        ensures { OnOk result (self.new ≡ self.old ++ text_of_marks (flat_map field_line fields.now)) }
+        ensures { OnOk result (self.new
+            ≡ self.old ++ text_of_marks (flat_map field_line fields.now)) }
     {
         for field in fields {
             self.field_line(field)?;
@@ -203,7 +210,8 @@ impl Printer {
 
     /// Writes static principals, each on a line of its own.
     fn statics(&mut self, statics: &[Named]) -> Result<(), AllocError>
-        ensures { OnOk result (self.new ≡ self.old ++ text_of_marks (flat_map static_line statics.now)) }
+        ensures { OnOk result (self.new
+            ≡ self.old ++ text_of_marks (flat_map static_line statics.now)) }
     {
         for name in statics {
             self.static_line(name)?;
@@ -213,7 +221,8 @@ impl Printer {
 
     /// Writes models on lines.
     fn models(&mut self, models: &[ModelDef]) -> Result<(), AllocError>
-        ensures { OnOk result (self.new ≡ self.old ++ text_of_marks (flat_map model_lines models.now)) }
+        ensures { OnOk result (self.new
+            ≡ self.old ++ text_of_marks (flat_map model_lines models.now)) }
     {
         for model in models {
             self.model_lines(model)?;

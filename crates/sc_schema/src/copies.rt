@@ -1,7 +1,8 @@
 //! Copies of schemas. A copy shares the policies and initialisers of what it copies.
 
 ghost use Rattle.std.specs.Prelude.{◌≡◌, IfOk, map};
-ghost use Rattle.sc_schema.specs.SchemaViews.{static_info_of, field_info_of, model_info_of, added_of, schema_of};
+ghost use Rattle.sc_schema.specs.SchemaViews.{static_info_of, field_info_of, model_info_of};
+ghost use Rattle.sc_schema.specs.SchemaViews.{added_of, schema_of};
 
 use crate::schemas::{FieldInfo, ModelInfo, Schema, StaticInfo};
 use crate::trees::TInit;

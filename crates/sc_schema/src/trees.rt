@@ -1,6 +1,5 @@
 //! Typed expressions, sets, policies and initialisers.
 
-
 use crate::types::{FieldNo, ModelNo, StaticNo};
 use sc_ast::{Name, Txt};
 use sc_tree::{CmpOp, FilterOp};
