@@ -1,0 +1,2 @@
+pub mod CheckedLists
+pub mod Lookups

@@ -1,0 +1,47 @@
+-- The types of fields, policies and initialisers, or the first fault.
+use Rattle.std.specs.Prelude.{ℕ, List, [], ◌∷◌, Ok}
+use Rattle.sc_tree.specs.declared.named.Named.{Named}
+use Rattle.sc_tree.specs.declared.models.Base.{Base}
+use Rattle.sc_tree.specs.declared.models.Base.TheVariants as b
+use Rattle.sc_tree.specs.declared.models.Ty.{Ty}
+use Rattle.sc_tree.specs.declared.models.Ty.TheVariants as ty
+use Rattle.sc_tree.specs.declared.policies.Policy.{Policy}
+use Rattle.sc_tree.specs.declared.policies.Policy.TheVariants as p
+use Rattle.sc_schema.specs.declared.types.TBase.{TBase}
+use Rattle.sc_schema.specs.declared.types.TBase.TheVariants as base
+use Rattle.sc_schema.specs.declared.types.TTy.{TTy}
+use Rattle.sc_schema.specs.declared.types.TTy.TheVariants.{Plain, Set, Opt}
+use Rattle.sc_schema.specs.declared.trees.TPolicy.{TPolicy}
+use Rattle.sc_schema.specs.declared.trees.TPolicy.TheVariants as tp
+use Rattle.sc_schema.specs.Schema.{Schema}
+use Rattle.sc_typing.specs.declared.asked.Content.TheVariants.{Principals}
+use Rattle.sc_typing.specs.declared.vars.Var.{Var}
+use Rattle.sc_typing.specs.declared.type_err.TypeErr.TheVariants.{Unknown}
+use Rattle.sc_typing.specs.Exprs.{typed_set}
+use Rattle.sc_typing.specs.Names.{model_named}
+use Rattle.sc_typing.specs.Outcome.{Checked, ◌>>=◌, or_else}
+
+-- a model that a type names
+abbrev pub typed_model : Schema → Named → Checked ℕ
+typed_model s model = or_else (model_named s model.name) (Unknown model.at)
+
+unfoldable pub typed_base : Schema → Base → Checked TBase
+typed_base s (b.Bool at) = Ok base.Bool
+typed_base s (b.Int at) = Ok base.Int
+typed_base s (b.Text at) = Ok base.Text
+typed_base s (b.Id model at) = typed_model s model >>= (λ m. Ok (base.Id m))
+
+unfoldable pub typed_type : Schema → Ty → Checked TTy
+typed_type s (ty.Plain plain) = typed_base s plain >>= (λ t. Ok (Plain t))
+typed_type s (ty.Set model at) = typed_model s model >>= (λ m. Ok (Set m))
+typed_type s (ty.Opt inside at) = typed_base s inside >>= (λ t. Ok (Opt t))
+
+-- the variable of a policy or an initialiser, which is a record of the model
+abbrev pub record_var : ℕ → Named → List Var
+record_var m x = (record { name = x.name; ty = Plain (base.Id m) }) ∷ []
+
+-- a policy on records of the model
+abbrev pub typed_policy : Schema → ℕ → Policy → Checked TPolicy
+typed_policy s m (p.Everyone at) = Ok tp.Everyone
+typed_policy s m (p.Nobody at) = Ok tp.Nobody
+typed_policy s m (p.Fun x set) = typed_set s (record_var m x) Principals set >>= (λ typed. Ok (tp.Fun x.name typed))

@@ -1,0 +1,121 @@
+//! Comparisons and filters.
+
+ghost use Rattle.std.specs.Prelude.{◌≡◌, IfOk};
+ghost use Rattle.sc_typing.specs.Compared as spec;
+
+use crate::type_err::TypeErr;
+use sc_schema::{TBase, TExpr, TTy};
+use sc_tree::{CmpOp, FilterOp};
+use sqlite_items::Boxed;
+use std::alloc::{AllocError, Global};
+
+/// What a sign asks of the left side.
+#[tactic(auto, unfolding(crate::specs::Compared::left_asked))]
+pub fn left_asked(op: CmpOp) -> Option<TTy>
+    ensures { result ≡ spec.left_asked op }
+{
+    match op {
+        CmpOp::Eq | CmpOp::Ne => None,
+        CmpOp::Lt | CmpOp::Le | CmpOp::Gt | CmpOp::Ge => Some(TTy::Plain(TBase::Int)),
+    }
+}
+
+#[tactic(auto, unfolding(crate::specs::Compared::alike))]
+fn alike(
+    alloc: Global,
+    op: CmpOp,
+    base: TBase,
+    left: TExpr,
+    right: TExpr,
+) -> Result<TExpr, AllocError>
+    ensures { IfOk result (λ tree. tree ≡ spec.alike op base left right) }
+{
+    let left = Boxed::new(alloc, left)?;
+    let right = Boxed::new(alloc, right)?;
+    Ok(match base {
+        TBase::Bool => TExpr::Iff(left, right, op),
+        TBase::Int | TBase::Text | TBase::Id(_) => TExpr::Eq(left, right, op),
+    })
+}
+
+fn less(alloc: Global, op: CmpOp, low: TExpr, high: TExpr) -> Result<TExpr, AllocError>
+    ensures { IfOk result (λ tree. tree ≡ spec.less op low high) }
+{
+    let low = Boxed::new(alloc, low)?;
+    let high = Boxed::new(alloc, high)?;
+    Ok(TExpr::Less(low, high, op))
+}
+
+fn negated(alloc: Global, tree: TExpr) -> Result<TExpr, AllocError>
+    ensures { IfOk result (λ negated. negated ≡ spec.negated tree) }
+{
+    let tree = Boxed::new(alloc, tree)?;
+    Ok(TExpr::Not(tree))
+}
+
+/// A comparison of two values of a base type, by equality and the order.
+#[tactic(auto, unfolding(crate::specs::Compared::compared))]
+pub fn compared(
+    alloc: Global,
+    op: CmpOp,
+    base: TBase,
+    left: TExpr,
+    right: TExpr,
+) -> Result<TExpr, AllocError>
+    ensures { IfOk result (λ tree. tree ≡ spec.compared op base left right) }
+{
+    match op {
+        CmpOp::Eq => alike(alloc, op, base, left, right),
+        CmpOp::Ne => {
+            let tree = alike(alloc, op, base, left, right)?;
+            negated(alloc, tree)
+        }
+        CmpOp::Lt => less(alloc, op, left, right),
+        CmpOp::Le => {
+            let tree = less(alloc, op, right, left)?;
+            negated(alloc, tree)
+        }
+        CmpOp::Gt => less(alloc, op, right, left),
+        CmpOp::Ge => {
+            let tree = less(alloc, op, left, right)?;
+            negated(alloc, tree)
+        }
+    }
+}
+
+#[tactic(auto, unfolding(crate::specs::Compared::ordered))]
+fn ordered(base: TBase, at: u32) -> Result<TTy, TypeErr>
+    ensures { result ≡ spec.ordered base at }
+{
+    match base {
+        TBase::Int => Ok(TTy::Plain(TBase::Int)),
+        TBase::Bool | TBase::Text | TBase::Id(_) => Err(TypeErr::WrongType { at }),
+    }
+}
+
+#[tactic(auto, unfolding(crate::specs::Compared::signed))]
+fn signed(op: CmpOp, base: TBase, at: u32) -> Result<TTy, TypeErr>
+    ensures { result ≡ spec.signed op base at }
+{
+    match op {
+        CmpOp::Eq | CmpOp::Ne => Ok(TTy::Plain(base)),
+        CmpOp::Lt | CmpOp::Le | CmpOp::Gt | CmpOp::Ge => ordered(base, at),
+    }
+}
+
+/// What a filter on a field of this type asks of its value. `at` is the field's place.
+#[tactic(auto, unfolding(crate::specs::Compared::tested))]
+pub fn tested(op: FilterOp, ty: TTy, at: u32) -> Result<TTy, TypeErr>
+    ensures { result ≡ spec.tested op ty at }
+{
+    match op {
+        FilterOp::Cmp(op) => match ty {
+            TTy::Plain(base) => signed(op, base, at),
+            TTy::Set(_) | TTy::Opt(_) => Err(TypeErr::WrongType { at }),
+        },
+        FilterOp::Has => match ty {
+            TTy::Set(model) => Ok(TTy::Plain(TBase::Id(model))),
+            TTy::Plain(_) | TTy::Opt(_) => Err(TypeErr::WrongType { at }),
+        },
+    }
+}
