@@ -11,7 +11,8 @@ ghost use Rattle.sc_tree.specs.Forms.{part};
 ghost use Rattle.sc_tree.specs.declared.commands.Script.{Script};
 ghost use Rattle.sc_tree.specs.declared.models.Spec.{Spec};
 ghost use Rattle.sc_tree.specs.Grammar.{policy_form, script_form, spec_form};
-ghost use Rattle.sc_tree.specs.Stripped.{stripped_expr, stripped_policy, stripped_script, stripped_set, stripped_spec};
+ghost use Rattle.sc_tree.specs.Stripped.{stripped_expr, stripped_policy, stripped_set};
+ghost use Rattle.sc_tree.specs.Stripped.{stripped_script, stripped_spec};
 ghost use Rattle.sc_tree.specs.Texts.{IsScriptText, IsSpecText, IsSpelled, IsTextOf};
 ghost use Rattle.sc_print.specs.Commands.{spelled_script};
 ghost use Rattle.sc_print.specs.Exprs.{spelled_expr, spelled_set};
@@ -19,8 +20,8 @@ ghost use Rattle.sc_print.specs.Marks.{lexemes_of_marks, text_of_marks};
 ghost use Rattle.sc_print.specs.Models.{spelled_policy, spelled_spec};
 ghost use Rattle.sc_spelling.specs.Reprinted.{AreOf, AreTokens, IsPrinted, IsReprinted, lexeme};
 
-/// The canonical text of a policy, a specification or a script that a text spells within the limits is a
-/// text that spells it again, offsets aside, within the limits.
+/// The canonical text of a policy, a specification or a script that a text spells within the limits
+/// is a text that spells it again, offsets aside, within the limits.
 pub fn printed_texts_spell()
     ensures policies { (text : List ℕ) (x : Policy) → IsTextOf policy_form text x →
         IsPrinted policy_form stripped_policy x (text_of_marks (spelled_policy x)) }
@@ -30,8 +31,8 @@ pub fn printed_texts_spell()
         IsPrinted script_form stripped_script x (text_of_marks (spelled_script x)) }
 {}
 
-/// The canonical spelling of an expression, a set or a policy that tokens spell within the limits spells
-/// it again, offsets aside, within the limits and with no more tokens.
+/// The canonical spelling of an expression, a set or a policy that tokens spell within the limits
+/// spells it again, offsets aside, within the limits and with no more tokens.
 pub fn policies_are_reprinted()
     ensures expressions { (x : Expr) (ls ks : List Piece) →
         AreTokens ls → IsSpelled (part Expression) x ls → AreOf (spelled_expr x).marks ks →
@@ -44,8 +45,8 @@ pub fn policies_are_reprinted()
         IsReprinted policy_form stripped_policy x (length ls) ks }
 {}
 
-/// The canonical spelling of a specification or a script that tokens spell within the limits spells it
-/// again, offsets aside, within the limits.
+/// The canonical spelling of a specification or a script that tokens spell within the limits spells
+/// it again, offsets aside, within the limits.
 pub fn texts_are_reprinted()
     ensures specifications { (x : Spec) (ls ks : List Piece) →
         AreTokens ls → IsSpelled spec_form x ls → AreOf (spelled_spec x) ks →
@@ -55,19 +56,31 @@ pub fn texts_are_reprinted()
         IsReprinted script_form stripped_script x (length ks) ks }
 {}
 
-/// A spelling of an equal tree, offsets aside, has no fewer tokens than the canonical one. So leaving out
-/// two of its lexemes, as a pair of parentheses, spells another tree or none.
+/// A spelling of an equal tree, offsets aside, has no fewer tokens than the canonical one. So
+/// leaving out two of its lexemes, as a pair of parentheses, spells another tree or none.
 pub fn parentheses_are_needed()
-    ensures fewest { (x y : Policy) (ls : List Piece) →
+    ensures short_expressions { (x y : Expr) (ls : List Piece) →
+        AreTokens ls → IsSpelled (part Expression) y ls → stripped_expr y ≡ stripped_expr x →
+        length (lexemes_of_marks (spelled_expr x).marks) ≤ length ls }
+    ensures short_sets { (x y : SetExpr) (ls : List Piece) →
+        AreTokens ls → IsSpelled (part Set) y ls → stripped_set y ≡ stripped_set x →
+        length (lexemes_of_marks (spelled_set x).marks) ≤ length ls }
+    ensures short_policies { (x y : Policy) (ls : List Piece) →
         AreTokens ls → IsSpelled policy_form y ls → stripped_policy y ≡ stripped_policy x →
         length (lexemes_of_marks (spelled_policy x)) ≤ length ls }
-    ensures expressions { (x y : Expr) (a b c : List Lexeme) (left right : Lexeme) (ls : List Piece) →
-        lexemes_of_marks (spelled_expr x).marks ≡ a ++ left ∷ (b ++ right ∷ c) → map lexeme ls ≡ a ++ (b ++ c) →
+    ensures expressions { (x y : Expr) (a b c : List Lexeme) (left right : Lexeme) →
+        (ls : List Piece) →
+        lexemes_of_marks (spelled_expr x).marks ≡ a ++ left ∷ (b ++ right ∷ c) →
+        map lexeme ls ≡ a ++ (b ++ c) →
         AreTokens ls → IsSpelled (part Expression) y ls → ¬ (stripped_expr y ≡ stripped_expr x) }
-    ensures sets { (x y : SetExpr) (a b c : List Lexeme) (left right : Lexeme) (ls : List Piece) →
-        lexemes_of_marks (spelled_set x).marks ≡ a ++ left ∷ (b ++ right ∷ c) → map lexeme ls ≡ a ++ (b ++ c) →
+    ensures sets { (x y : SetExpr) (a b c : List Lexeme) (left right : Lexeme) →
+        (ls : List Piece) →
+        lexemes_of_marks (spelled_set x).marks ≡ a ++ left ∷ (b ++ right ∷ c) →
+        map lexeme ls ≡ a ++ (b ++ c) →
         AreTokens ls → IsSpelled (part Set) y ls → ¬ (stripped_set y ≡ stripped_set x) }
-    ensures policies { (x y : Policy) (a b c : List Lexeme) (left right : Lexeme) (ls : List Piece) →
-        lexemes_of_marks (spelled_policy x) ≡ a ++ left ∷ (b ++ right ∷ c) → map lexeme ls ≡ a ++ (b ++ c) →
+    ensures policies { (x y : Policy) (a b c : List Lexeme) (left right : Lexeme) →
+        (ls : List Piece) →
+        lexemes_of_marks (spelled_policy x) ≡ a ++ left ∷ (b ++ right ∷ c) →
+        map lexeme ls ≡ a ++ (b ++ c) →
         AreTokens ls → IsSpelled policy_form y ls → ¬ (stripped_policy y ≡ stripped_policy x) }
 {}

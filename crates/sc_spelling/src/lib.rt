@@ -1,7 +1,7 @@
 //! What holds of canonical spellings.
 //!
-//! The canonical spelling of a tree spells that tree, offsets aside, within the limits that any spelling
-//! of it keeps. No spelling of an expression, a set or a policy has fewer tokens.
+//! The canonical spelling of a tree spells that tree, offsets aside, within the limits that any
+//! spelling of it keeps. No spelling of an expression, a set or a policy has fewer tokens.
 #![tactic(auto)]
 
 mod laws;
