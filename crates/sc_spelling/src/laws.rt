@@ -11,8 +11,8 @@ ghost use Rattle.sc_tree.specs.Forms.{part};
 ghost use Rattle.sc_tree.specs.declared.commands.Script.{Script};
 ghost use Rattle.sc_tree.specs.declared.models.Spec.{Spec};
 ghost use Rattle.sc_tree.specs.Grammar.{policy_form, script_form, spec_form};
-ghost use Rattle.sc_tree.specs.Stripped.{stripped_expr, stripped_policy, stripped_script};
-ghost use Rattle.sc_tree.specs.Stripped.{stripped_set, stripped_spec};
+ghost use Rattle.sc_tree.specs.Stripped.{stripped_expr, stripped_policy, stripped_set};
+ghost use Rattle.sc_tree.specs.Stripped.{stripped_script, stripped_spec};
 ghost use Rattle.sc_tree.specs.Texts.{IsScriptText, IsSpecText, IsSpelled, IsTextOf};
 ghost use Rattle.sc_print.specs.Commands.{spelled_script};
 ghost use Rattle.sc_print.specs.Exprs.{spelled_expr, spelled_set};
@@ -59,19 +59,26 @@ pub fn texts_are_reprinted()
 /// A spelling of an equal tree, offsets aside, has no fewer tokens than the canonical one. So
 /// leaving out two of its lexemes, as a pair of parentheses, spells another tree or none.
 pub fn parentheses_are_needed()
-    ensures fewest { (x y : Policy) (ls : List Piece) →
+    ensures short_expressions { (x y : Expr) (ls : List Piece) →
+        AreTokens ls → IsSpelled (part Expression) y ls → stripped_expr y ≡ stripped_expr x →
+        length (lexemes_of_marks (spelled_expr x).marks) ≤ length ls }
+    ensures short_sets { (x y : SetExpr) (ls : List Piece) →
+        AreTokens ls → IsSpelled (part Set) y ls → stripped_set y ≡ stripped_set x →
+        length (lexemes_of_marks (spelled_set x).marks) ≤ length ls }
+    ensures short_policies { (x y : Policy) (ls : List Piece) →
         AreTokens ls → IsSpelled policy_form y ls → stripped_policy y ≡ stripped_policy x →
         length (lexemes_of_marks (spelled_policy x)) ≤ length ls }
-    ensures expressions { (x y : Expr) (a b c : List Lexeme) (left right : Lexeme)
+    ensures expressions { (x y : Expr) (a b c : List Lexeme) (left right : Lexeme) →
         (ls : List Piece) →
         lexemes_of_marks (spelled_expr x).marks ≡ a ++ left ∷ (b ++ right ∷ c) →
         map lexeme ls ≡ a ++ (b ++ c) →
         AreTokens ls → IsSpelled (part Expression) y ls → ¬ (stripped_expr y ≡ stripped_expr x) }
-    ensures sets { (x y : SetExpr) (a b c : List Lexeme) (left right : Lexeme) (ls : List Piece) →
+    ensures sets { (x y : SetExpr) (a b c : List Lexeme) (left right : Lexeme) →
+        (ls : List Piece) →
         lexemes_of_marks (spelled_set x).marks ≡ a ++ left ∷ (b ++ right ∷ c) →
         map lexeme ls ≡ a ++ (b ++ c) →
         AreTokens ls → IsSpelled (part Set) y ls → ¬ (stripped_set y ≡ stripped_set x) }
-    ensures policies { (x y : Policy) (a b c : List Lexeme) (left right : Lexeme)
+    ensures policies { (x y : Policy) (a b c : List Lexeme) (left right : Lexeme) →
         (ls : List Piece) →
         lexemes_of_marks (spelled_policy x) ≡ a ++ left ∷ (b ++ right ∷ c) →
         map lexeme ls ≡ a ++ (b ++ c) →

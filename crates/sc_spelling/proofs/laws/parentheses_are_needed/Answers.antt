@@ -58,5 +58,11 @@ returns-clause-policies c x y a b d v w ls is of good h same =
     let short = policy_short x y ls good h same in
     omega arith
 
-pub returns-clause-fewest : goal.returns-clause-fewest
-returns-clause-fewest c x y ls good h same = policy_short x y ls good h same
+pub returns-clause-short_expressions : goal.returns-clause-short_expressions
+returns-clause-short_expressions c x y ls good h same = expr_short x y ls good h same
+
+pub returns-clause-short_sets : goal.returns-clause-short_sets
+returns-clause-short_sets c x y ls good h same = set_short x y ls good h same
+
+pub returns-clause-short_policies : goal.returns-clause-short_policies
+returns-clause-short_policies c x y ls good h same = policy_short x y ls good h same
