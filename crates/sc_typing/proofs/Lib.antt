@@ -1,2 +1,3 @@
 pub mod CheckedLists
 pub mod Lookups
+pub mod WorkedTypes

@@ -5,3 +5,4 @@ pub mod Names
 pub mod Outcome
 pub mod Policies
 pub mod Public
+pub mod Worked

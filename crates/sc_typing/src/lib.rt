@@ -9,10 +9,12 @@
 //! | `compared` | comparisons and filters |
 //! | `nodes` | typed expressions and sets, of their parts |
 //! | `types` | the types of fields |
+//! | `laws` | laws over the definitions |
 #![tactic(auto)]
 
 mod asked;
 mod compared;
+mod laws;
 mod names;
 mod nodes;
 mod type_err;
@@ -20,6 +22,7 @@ mod types;
 mod vars;
 
 pub use asked::{Content, Source, Typed};
+pub use laws::worked_types;
 pub use type_err::{TypeErr, UsedBy};
 pub use types::typed_type;
 pub use vars::Var;

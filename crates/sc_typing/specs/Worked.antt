@@ -1,0 +1,113 @@
+-- Worked types and faults: users and notes, of whom users are principals, and a static visitor.
+use Rattle.std.specs.Prelude.{◌≡◌, ℕ, true, false, List, [], ◌∷◌, codes, Some, None, Ok, Err}
+use Rattle.sc_tree.specs.declared.named.Named.{Named}
+use Rattle.sc_tree.specs.declared.exprs.CmpOp.TheVariants.{Ne, Gt}
+use Rattle.sc_tree.specs.declared.exprs.FilterOp.TheVariants.{Cmp}
+use Rattle.sc_tree.specs.declared.exprs.Expr.{Expr}
+use Rattle.sc_tree.specs.declared.exprs.Expr.TheVariants as e
+use Rattle.sc_tree.specs.declared.exprs.SetExpr.TheVariants as s
+use Rattle.sc_tree.specs.declared.exprs.Item.TheVariants as item
+use Rattle.sc_schema.specs.declared.types.TBase.TheVariants as base
+use Rattle.sc_schema.specs.declared.types.TTy.{TTy}
+use Rattle.sc_schema.specs.declared.types.TTy.TheVariants.{Plain, Opt}
+use Rattle.sc_schema.specs.declared.trees.TExpr.TheVariants as t
+use Rattle.sc_schema.specs.declared.trees.TSet.TheVariants as ts
+use Rattle.sc_schema.specs.declared.trees.TItem.TheVariants as ti
+use Rattle.sc_schema.specs.Trees.{to_all, to_none}
+use Rattle.sc_schema.specs.Schema.{FieldInfo, Schema}
+use Rattle.sc_typing.specs.declared.asked.Content.TheVariants.{Principals, Records}
+use Rattle.sc_typing.specs.declared.vars.Var.{Var}
+use Rattle.sc_typing.specs.declared.type_err.TypeErr.TheVariants.{NotPrincipal, Twice, Unknown, WrongType}
+use Rattle.sc_typing.specs.Asked.{of_type}
+use Rattle.sc_typing.specs.Exprs.{typed_expr, typed_set}
+
+abbrev pub field : ℕ → List ℕ → TTy → FieldInfo
+field number name ty = record { number = number; name = name; ty = ty; read = to_all; write = to_none }
+
+-- the fields: email 0, age 1, manager 2 of users, body 3 of notes
+abbrev pub app : Schema
+app = record {
+  statics = (record { number = 0; name = codes "Visitor" }) ∷ [];
+  models =
+      (record {
+        number = 0;
+        name = codes "User";
+        principal = true;
+        create = to_all;
+        delete = to_none;
+        fields =
+            field 0 (codes "email") (Plain base.Text) ∷ field 1 (codes "age") (Plain base.Int)
+            ∷ field 2 (codes "manager") (Plain (base.Id 0)) ∷ [];
+      })
+      ∷ (record {
+        number = 1;
+        name = codes "Note";
+        principal = false;
+        create = to_all;
+        delete = to_none;
+        fields = field 3 (codes "body") (Plain base.Text) ∷ [];
+      }) ∷ [];
+  next_static = 1;
+  next_model = 2;
+  next_field = 4;
+  added = [];
+}
+
+abbrev pub named : List ℕ → ℕ → Named
+named name at = record { name = name; at = at }
+
+-- the variable u at this offset, and a field of it
+abbrev pub u_at : ℕ → Expr
+u_at at = e.Var (named (codes "u") at) at
+
+abbrev pub field_of_u : List ℕ → ℕ → ℕ → Expr
+field_of_u name u at = e.Get (u_at u) (named name at) u
+
+-- the variable u, which is a record of the model
+abbrev pub u_of : ℕ → List Var
+u_of m = (record { name = codes "u"; ty = Plain (base.Id m) }) ∷ []
+
+abbrev pub int : TTy
+int = Plain base.Int
+
+pub record WorkedTypes : Type 0 where
+  -- u.age
+  pub field_is_found : typed_expr app (u_of 0) (Some int) (field_of_u (codes "age") 56 58) ≡ Ok (of_type 56 int (t.Get (t.Var 0 (codes "u")) 0 1))
+  -- u.nope
+  pub unknown_field : typed_expr app (u_of 0) (Some int) (field_of_u (codes "nope") 56 58) ≡ Err (Unknown 58)
+  -- u.email, where a number is asked
+  pub another_type : typed_expr app (u_of 0) (Some int) (field_of_u (codes "email") 56 58) ≡ Err (WrongType 56)
+  -- w
+  pub unknown_variable : typed_expr app (u_of 0) None (e.Var (named (codes "w") 7) 6) ≡ Err (Unknown 7)
+  -- none, where nothing is asked
+  pub none_alone : typed_expr app (u_of 0) None (e.NoneLit 9) ≡ Err (WrongType 9)
+  -- some(true), where an option of numbers is asked: its part is asked for a number
+  pub part_of_some : typed_expr app [] (Some (Opt base.Int)) (e.SomeLit (e.Flag true 75) 70) ≡ Err (WrongType 75)
+  -- u.age != u.age is not an equality
+  pub unequal :
+      typed_expr app (u_of 0) None (e.Cmp Ne (field_of_u (codes "age") 0 2) (field_of_u (codes "age") 9 11) 0)
+      ≡ Ok (of_type 0 (Plain base.Bool) (t.Not (t.Eq (t.Get (t.Var 0 (codes "u")) 0 1) (t.Get (t.Var 0 (codes "u")) 0 1) Ne)))
+  -- u.age > u.email: the first fault is that of the right side
+  pub order_of_text :
+      typed_expr app (u_of 0) None (e.Cmp Gt (field_of_u (codes "age") 0 2) (field_of_u (codes "email") 8 10) 0) ≡ Err (WrongType 8)
+  -- match some(true) with none -> false | some u -> u
+  pub variable_hides_none :
+      typed_expr app (u_of 0) None (e.MatchE (e.SomeLit (e.Flag true 11) 6) (e.Flag false 30) (named (codes "u") 43) (u_at 48) 0) ≡ Err (Twice 43)
+  -- [u], where u is a user and where u is a note
+  pub principal_is_listed :
+      typed_set app (u_of 0) Principals (s.List (item.One (u_at 44) ∷ []) 43) ≡ Ok (ts.List (ti.One 0 (t.Var 0 (codes "u")) ∷ []))
+  pub note_is_no_principal : typed_set app (u_of 1) Principals (s.List (item.One (u_at 44) ∷ []) 43) ≡ Err (NotPrincipal 44)
+  -- [Visitor], where principals are asked and where users are
+  pub static_is_listed : typed_set app [] Principals (s.List (item.Static (named (codes "Visitor") 3) ∷ []) 2) ≡ Ok (ts.List (ti.Static 0 ∷ []))
+  pub static_is_no_record : typed_set app [] (Records 0) (s.List (item.Static (named (codes "Visitor") 3) ∷ []) 2) ≡ Err (WrongType 3)
+  -- Note::Find({}) in parentheses, in a policy: the fault stands at the chain
+  pub notes_are_no_principals : typed_set app [] Principals (s.Find (named (codes "Note") 6) [] 5) ≡ Err (NotPrincipal 6)
+  -- Note::Find({body > true}): the sign does not fit the field
+  pub sign_of_filter :
+      typed_set app [] (Records 1) (s.Find (named (codes "Note") 6) ((record { field = named (codes "body") 18; op = Cmp Gt; value = e.Flag true 25 }) ∷ []) 6)
+      ≡ Err (WrongType 18)
+  -- User::Find({}).map(x -> x.age): no id
+  pub map_needs_ids :
+      typed_set app [] Principals
+      (s.MapS (s.Find (named (codes "User") 0) [] 0) (named (codes "x") 19) (e.Get (e.Var (named (codes "x") 24) 24) (named (codes "age") 26) 24) 0)
+      ≡ Err (WrongType 24)

@@ -1,0 +1,9 @@
+//! Laws over the definitions alone. Each is the contract of a function that does nothing.
+
+ghost use Rattle.sc_typing.specs.Worked.{WorkedTypes};
+
+/// Worked types and faults, which show what typing gives of expressions and sets.
+#[tactic(auto, using(crate::proofs::WorkedTypes::worked))]
+pub fn worked_types()
+    ensures { WorkedTypes }
+{}
