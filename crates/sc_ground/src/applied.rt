@@ -16,7 +16,8 @@ use std::alloc::{AllocError, Global};
 
 /// Puts a function at the end of a list, if it gives elements.
 fn push_function(signature: &Signature, f: u32, functions: &mut Vec<u32>) -> Result<(), AllocError>
-    ensures { OnOk result (functions.new.items ≡ functions.old.items ++ if_element signature.now f (f ∷ [])) }
+    ensures { OnOk result (functions.new.items ≡ functions.old.items ++ if_element signature.now f
+        (f ∷ [])) }
 {
     match target_of(signature, f) {
         None => Ok(()),
@@ -35,7 +36,8 @@ fn push_functions(
     functions: &mut Vec<u32>,
 ) -> Result<(), AllocError>
     requires { IsTerm arena.now id }
-    ensures { OnOk result (functions.new.items ≡ functions.old.items ++ element_functions signature.now (term_of arena.now id)) }
+    ensures { OnOk result (functions.new.items ≡ functions.old.items ++ element_functions
+        signature.now (term_of arena.now id)) }
 {
     let mut at = id;
     'down: while let Node::App(f, t) = arena.node(at) {
@@ -53,7 +55,8 @@ fn push_functions_of(
     functions: &mut Vec<u32>,
 ) -> Result<(), AllocError>
     requires { HasTerm arena.now part.now }
-    ensures { OnOk result (functions.new.items ≡ functions.old.items ++ code_functions signature.now arena.now part.now) }
+    ensures { OnOk result (functions.new.items ≡ functions.old.items ++ code_functions
+        signature.now arena.now part.now) }
 {
     match part {
         Part::Dependent(id) => push_functions(arena, signature, *id, functions),
@@ -69,7 +72,8 @@ pub(crate) fn applied_functions(
     parts: &[Part],
 ) -> Result<Vec<u32>, AllocError>
     requires { HaveTerms arena.now parts.now }
-    ensures { IfOk result (λ functions. functions.items ≡ unique (λ h k. h == k) (flat_map (code_functions signature.now arena.now) parts.now)) }
+    ensures { IfOk result (λ functions. functions.items ≡ unique (λ h k. h == k) (flat_map
+        (code_functions signature.now arena.now) parts.now)) }
 {
     let mut functions = Vec::new(alloc);
     for part in parts {

@@ -33,7 +33,8 @@ pub(crate) fn functions_of(alloc: Global, arena: &Arena, id: u32) -> Result<Vec<
 
 /// Lists the ground term of a name.
 fn list_name(terms: &mut TermArena, name: Name, listed: &mut Vec<u32>) -> Result<u32, AllocError>
-    ensures listed { OnOk result (AreListed (ground_name name ∷ []) terms.old terms.new listed.old.items listed.new.items) }
+    ensures listed { OnOk result (AreListed (ground_name name ∷ []) terms.old terms.new
+        listed.old.items listed.new.items) }
     ensures one { IfOk result (λ id. IsOne terms.new id) }
     ensures is { IfOk result (λ id. ground_term_of terms.new id ≡ ground_name name) }
 {
@@ -52,9 +53,11 @@ fn list_field(
     listed: &mut Vec<u32>,
 ) -> Result<u32, AllocError>
     requires { IsOne terms.old at }
-    ensures listed { OnOk result (AreListed (if_element signature.now f (field f (ground_term_of terms.old at) ∷ [])) terms.old terms.new listed.old.items listed.new.items) }
+    ensures listed { OnOk result (AreListed (if_element signature.now f (field f (ground_term_of
+        terms.old at) ∷ [])) terms.old terms.new listed.old.items listed.new.items) }
     ensures one { IfOk result (λ id. IsOne terms.new id) }
-    ensures is { IfOk result (λ id. ground_term_of terms.new id ≡ field f (ground_term_of terms.old at)) }
+    ensures is { IfOk result (λ id. ground_term_of terms.new id ≡ field f (ground_term_of terms.old
+        at)) }
 {
     let id = terms.add(TermNode::Field(f, at))?;
     match target_of(signature, f) {
@@ -75,7 +78,8 @@ fn list_chain(
     listed: &mut Vec<u32>,
 ) -> Result<(), AllocError>
     requires { listed.old.items ≡ [] }
-    ensures { OnOk result (AreListed (inner_parts signature.now (ground_name name) functions.items) terms.old terms.new [] listed.new.items) }
+    ensures { OnOk result (AreListed (inner_parts signature.now (ground_name name) functions.items)
+        terms.old terms.new [] listed.new.items) }
 {
     let mut functions = functions;
     let mut at = list_name(terms, name, listed)?;
@@ -107,7 +111,8 @@ fn list_named(
     listed: &mut Vec<u32>,
 ) -> Result<(), AllocError>
     requires { IsTerm arena.now id }
-    ensures { OnOk result (AreListed (record_parts signature.now (ground_name name) (functions_in (term_of arena.now id))) terms.old terms.new listed.old.items listed.new.items) }
+    ensures { OnOk result (AreListed (record_parts signature.now (ground_name name) (functions_in
+        (term_of arena.now id))) terms.old terms.new listed.old.items listed.new.items) }
 {
     let functions = functions_of(alloc, arena, id)?;
     let mut found = Vec::new(alloc);
@@ -126,7 +131,8 @@ fn list_terms_of(
     listed: &mut Vec<u32>,
 ) -> Result<(), AllocError>
     requires { HasTerm arena.now part.now }
-    ensures { OnOk result (AreListed (code_terms signature.now arena.now part.now) terms.old terms.new listed.old.items listed.new.items) }
+    ensures { OnOk result (AreListed (code_terms signature.now arena.now part.now) terms.old
+        terms.new listed.old.items listed.new.items) }
 {
     match part {
         Part::Named(id, name) => list_named(alloc, arena, signature, terms, *id, *name, listed),
@@ -144,7 +150,8 @@ pub(crate) fn list_terms(
     listed: &mut Vec<u32>,
 ) -> Result<(), AllocError>
     requires { HaveTerms arena.now parts.now }
-    ensures { OnOk result (AreListed (flat_map (code_terms signature.now arena.now) parts.now) terms.old terms.new listed.old.items listed.new.items) }
+    ensures { OnOk result (AreListed (flat_map (code_terms signature.now arena.now) parts.now)
+        terms.old terms.new listed.old.items listed.new.items) }
 {
     for part in parts {
         list_terms_of(alloc, arena, signature, terms, part, listed)?;
@@ -154,7 +161,8 @@ pub(crate) fn list_terms(
 
 /// Lists the ground term of the variable of an `exists`, if it has one.
 fn list_name_of(terms: &mut TermArena, part: &Part, listed: &mut Vec<u32>) -> Result<(), AllocError>
-    ensures { OnOk result (AreListed (code_names part.now) terms.old terms.new listed.old.items listed.new.items) }
+    ensures { OnOk result (AreListed (code_names part.now) terms.old terms.new listed.old.items
+        listed.new.items) }
 {
     match part {
         Part::Existential(variable) => {
@@ -179,7 +187,8 @@ pub(crate) fn list_names(
     parts: &[Part],
     listed: &mut Vec<u32>,
 ) -> Result<(), AllocError>
-    ensures { OnOk result (AreListed (flat_map code_names parts.now) terms.old terms.new listed.old.items listed.new.items) }
+    ensures { OnOk result (AreListed (flat_map code_names parts.now) terms.old terms.new
+        listed.old.items listed.new.items) }
 {
     for part in parts {
         list_name_of(terms, part, listed)?;

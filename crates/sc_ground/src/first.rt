@@ -26,7 +26,8 @@ fn list_constant(
     sort: u32,
     listed: &mut Vec<u32>,
 ) -> Result<(), AllocError>
-    ensures { OnOk result (AreListed (map constant (filter (is_marked needed.now) (sort ∷ []))) terms.old terms.new listed.old.items listed.new.items) }
+    ensures { OnOk result (AreListed (map constant (filter (is_marked needed.now) (sort ∷ [])))
+        terms.old terms.new listed.old.items listed.new.items) }
 {
     if !is_marked(needed, sort) {
         return Ok(());
@@ -42,7 +43,8 @@ fn list_constants(
     sorts: u32,
     listed: &mut Vec<u32>,
 ) -> Result<(), AllocError>
-    ensures { OnOk result (AreListed (map constant (filter (is_marked needed.now) (range_with_len 0 sorts))) terms.old terms.new listed.old.items listed.new.items) }
+    ensures { OnOk result (AreListed (map constant (filter (is_marked needed.now) (range_with_len 0
+        sorts))) terms.old terms.new listed.old.items listed.new.items) }
 {
     for sort in 0..sorts {
         list_constant(terms, needed, sort, listed)?;
@@ -60,7 +62,10 @@ pub(crate) fn first_terms(
     parts: &[Part],
 ) -> Result<Vec<u32>, AllocError>
     requires { HaveTerms arena.now parts.now }
-    ensures { IfOk result (λ first. AreListed (map constant (filter (is_marked needed.now) (range_with_len 0 signature.now.sorts)) ++ unique is_same_term (flat_map code_names parts.now ++ flat_map (code_terms signature.now arena.now) parts.now)) terms.old terms.new [] first.items) }
+    ensures { IfOk result (λ first. AreListed (map constant (filter (is_marked needed.now)
+        (range_with_len 0 signature.now.sorts)) ++ unique is_same_term (flat_map code_names
+        parts.now ++ flat_map (code_terms signature.now arena.now) parts.now)) terms.old terms.new
+        [] first.items) }
 {
     let mut found = Vec::new(alloc);
     list_names(terms, parts, &mut found)?;
@@ -98,7 +103,8 @@ pub(crate) fn plain_terms(
     listed: &[u32],
 ) -> Result<Vec<u32>, AllocError>
     requires { AreOnes terms.now listed.now }
-    ensures { IfOk result (λ found. AreTermsAt terms.now found.items (filter (is_plain_in functions.now) (terms_at terms.now listed.now))) }
+    ensures { IfOk result (λ found. AreTermsAt terms.now found.items (filter (is_plain_in
+        functions.now) (terms_at terms.now listed.now))) }
 {
     let mut found = Vec::new(alloc);
     for id in listed {

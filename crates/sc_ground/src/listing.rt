@@ -3,7 +3,14 @@
 ghost use Rattle.std.specs.Prelude.{◌≡◌, ◌∷◌, [], ◌++◌, true, map, IfOk, OnOk};
 ghost use Rattle.std.specs.List.{filter};
 ghost use Rattle.sc_terms.specs.GroundTerms.{field, skolem, term_and, sort_of, is_number};
-ghost use Rattle.sc_term_arena.specs.Nodes.{term_of, list_of, term_part, tree_from, trees_of, is_one};
+ghost use Rattle.sc_term_arena.specs.Nodes.{
+  term_of,
+  list_of,
+  term_part,
+  tree_from,
+  trees_of,
+  is_one,
+};
 ghost use Rattle.sc_term_arena.specs.Nodes.{IsOne, IsList, IsPlaced};
 ghost use Rattle.sc_ground.specs.Standing.{terms_at, lists_at, AreOnes, AreLists, AreTermsAt};
 ghost use Rattle.sc_ground.specs.Standing.{AreListed, AreListsListed};
@@ -21,7 +28,8 @@ pub(crate) fn list_term(
 ) -> Result<(), AllocError>
     requires placed { IsPlaced terms.old node }
     requires one { is_one node ≡ true }
-    ensures { OnOk result (AreListed (term_part (tree_from (trees_of terms.old) node) ∷ []) terms.old terms.new listed.old.items listed.new.items) }
+    ensures { OnOk result (AreListed (term_part (tree_from (trees_of terms.old) node) ∷ [])
+        terms.old terms.new listed.old.items listed.new.items) }
 {
     let id = terms.add(node)?;
     listed.push(id)?;
@@ -60,7 +68,8 @@ pub(crate) fn of_sort(
     sort: u32,
 ) -> Result<Vec<u32>, AllocError>
     requires { AreOnes terms.now listed.now }
-    ensures { IfOk result (λ found. AreTermsAt terms.now found.items (filter (λ t. is_number (sort_of signature.now t) sort) (terms_at terms.now listed.now))) }
+    ensures { IfOk result (λ found. AreTermsAt terms.now found.items (filter (λ t. is_number
+        (sort_of signature.now t) sort) (terms_at terms.now listed.now))) }
 {
     let mut found = Vec::new(alloc);
     for id in listed {
@@ -79,7 +88,8 @@ pub(crate) fn list_fields(
     listed: &mut Vec<u32>,
 ) -> Result<(), AllocError>
     requires { AreOnes terms.old arguments.now }
-    ensures { OnOk result (AreListed (map (field h) (terms_at terms.old arguments.now)) terms.old terms.new listed.old.items listed.new.items) }
+    ensures { OnOk result (AreListed (map (field h) (terms_at terms.old arguments.now)) terms.old
+        terms.new listed.old.items listed.new.items) }
 {
     for t in arguments {
         list_term(terms, TermNode::Field(h, *t), listed)?;
@@ -96,7 +106,8 @@ pub(crate) fn list_skolems(
     listed: &mut Vec<u32>,
 ) -> Result<(), AllocError>
     requires { AreLists terms.old arguments.now }
-    ensures { OnOk result (AreListed (map (skolem number sort) (lists_at terms.old arguments.now)) terms.old terms.new listed.old.items listed.new.items) }
+    ensures { OnOk result (AreListed (map (skolem number sort) (lists_at terms.old arguments.now))
+        terms.old terms.new listed.old.items listed.new.items) }
 {
     for ts in arguments {
         list_term(terms, TermNode::Skolem(number, sort, *ts), listed)?;
@@ -113,7 +124,8 @@ pub(crate) fn list_with(
 ) -> Result<(), AllocError>
     requires one { IsOne terms.old first }
     requires lists { AreLists terms.old rests.now }
-    ensures { OnOk result (AreListsListed (map (term_and (term_of terms.old first)) (lists_at terms.old rests.now)) terms.old terms.new listed.old.items listed.new.items) }
+    ensures { OnOk result (AreListsListed (map (term_and (term_of terms.old first)) (lists_at
+        terms.old rests.now)) terms.old terms.new listed.old.items listed.new.items) }
 {
     for rest in rests {
         let id = terms.add(TermNode::Cons(first, *rest))?;

@@ -84,7 +84,8 @@ fn mark_part(arena: &Arena, signature: &Signature, part: &Part, marks: &mut [boo
 /// Marks the sorts of all parts.
 fn mark_parts(arena: &Arena, signature: &Signature, parts: &[Part], marks: &mut [bool])
     requires { HaveTerms arena.now parts.now }
-    ensures { AreMarked (flat_map (code_sorts signature.now arena.now) parts.now) marks.old marks.new }
+    ensures { AreMarked (flat_map (code_sorts signature.now arena.now) parts.now) marks.old
+        marks.new }
 {
     for part in parts {
         mark_part(arena, signature, part, marks);
@@ -135,7 +136,8 @@ pub(crate) fn needed_sorts(
     parts: &[Part],
 ) -> Result<Vec<bool>, AllocError>
     requires { HaveTerms arena.now parts.now }
-    ensures { IfOk result (λ marks. (f : Formula) → AreParts arena.now (parts_of f) parts.now → AreNeededAfter signature.now f signature.now.sorts marks.items) }
+    ensures { IfOk result (λ marks. (f : Formula) → AreParts arena.now (parts_of f) parts.now →
+        AreNeededAfter signature.now f signature.now.sorts marks.items) }
 {
     let mut marks = vec![in alloc; false; signature.sorts as usize]?;
     mark_parts(arena, signature, parts, marks.as_mut_slice());

@@ -35,7 +35,8 @@ fn list_function(
     listed: &mut Vec<u32>,
 ) -> Result<(), AllocError>
     requires { AreOnes terms.old current.now }
-    ensures { OnOk result (AreListed (fields_of signature.now (terms_at terms.old current.now) h) terms.old terms.new listed.old.items listed.new.items) }
+    ensures { OnOk result (AreListed (fields_of signature.now (terms_at terms.old current.now) h)
+        terms.old terms.new listed.old.items listed.new.items) }
 {
     match source_of(signature, h) {
         None => Ok(()),
@@ -57,7 +58,8 @@ fn list_functions(
     listed: &mut Vec<u32>,
 ) -> Result<(), AllocError>
     requires { AreOnes terms.old current.now }
-    ensures { OnOk result (AreListed (flat_map (fields_of signature.now (terms_at terms.old current.now)) functions.now) terms.old terms.new listed.old.items listed.new.items) }
+    ensures { OnOk result (AreListed (flat_map (fields_of signature.now (terms_at terms.old
+        current.now)) functions.now) terms.old terms.new listed.old.items listed.new.items) }
 {
     for h in functions {
         list_function(alloc, signature, terms, *h, current, listed)?;
@@ -74,7 +76,8 @@ fn list_each(
 ) -> Result<(), AllocError>
     requires ones { AreOnes terms.old firsts.now }
     requires lists { AreLists terms.old rests.now }
-    ensures { OnOk result (AreListsListed (with_each (terms_at terms.old firsts.now) (lists_at terms.old rests.now)) terms.old terms.new listed.old.items listed.new.items) }
+    ensures { OnOk result (AreListsListed (with_each (terms_at terms.old firsts.now) (lists_at
+        terms.old rests.now)) terms.old terms.new listed.old.items listed.new.items) }
 {
     for first in firsts {
         list_with(terms, *first, rests, listed)?;
@@ -93,7 +96,9 @@ fn longer_lists(
 ) -> Result<Vec<u32>, AllocError>
     requires ones { AreOnes terms.old current.now }
     requires lists { AreLists terms.old rests.now }
-    ensures { IfOk result (λ lists. AreListsListed (with_each (of_sort_in signature.now (terms_at terms.old current.now) sort) (lists_at terms.old rests.now)) terms.old terms.new [] lists.items) }
+    ensures { IfOk result (λ lists. AreListsListed (with_each (of_sort_in signature.now (terms_at
+        terms.old current.now) sort) (lists_at terms.old rests.now)) terms.old terms.new []
+        lists.items) }
 {
     let firsts = of_sort(alloc, signature, terms, current, sort)?;
     let mut lists = Vec::new(alloc);
@@ -110,7 +115,8 @@ fn choices(
     sorts: &[u32],
 ) -> Result<Vec<u32>, AllocError>
     requires { AreOnes terms.old current.now }
-    ensures { IfOk result (λ lists. AreListsListed (choices signature.now (terms_at terms.old current.now) sorts.now) terms.old terms.new [] lists.items) }
+    ensures { IfOk result (λ lists. AreListsListed (choices signature.now (terms_at terms.old
+        current.now) sorts.now) terms.old terms.new [] lists.items) }
 {
     let empty = terms.add(TermNode::Empty)?;
     let mut lists = vec![in alloc; empty]?;
@@ -139,7 +145,8 @@ fn list_part(
     listed: &mut Vec<u32>,
 ) -> Result<(), AllocError>
     requires { AreOnes terms.old current.now }
-    ensures { OnOk result (AreListed (code_skolems signature.now (terms_at terms.old current.now) part.now) terms.old terms.new listed.old.items listed.new.items) }
+    ensures { OnOk result (AreListed (code_skolems signature.now (terms_at terms.old current.now)
+        part.now) terms.old terms.new listed.old.items listed.new.items) }
 {
     match part {
         Part::Existential(v) => {
@@ -164,7 +171,8 @@ fn list_parts(
     listed: &mut Vec<u32>,
 ) -> Result<(), AllocError>
     requires { AreOnes terms.old current.now }
-    ensures { OnOk result (AreListed (flat_map (code_skolems signature.now (terms_at terms.old current.now)) parts.now) terms.old terms.new listed.old.items listed.new.items) }
+    ensures { OnOk result (AreListed (flat_map (code_skolems signature.now (terms_at terms.old
+        current.now)) parts.now) terms.old terms.new listed.old.items listed.new.items) }
 {
     for part in parts {
         list_part(alloc, signature, terms, part, current, listed)?;
@@ -184,7 +192,10 @@ pub(crate) fn next_round(
 ) -> Result<Vec<u32>, AllocError>
     requires plain { AreOnes terms.old plain.now }
     requires current { AreOnes terms.old current.now }
-    ensures { IfOk result (λ next. AreListed (terms_at terms.old plain.now ++ (flat_map (fields_of signature.now (terms_at terms.old current.now)) functions.now ++ flat_map (code_skolems signature.now (terms_at terms.old current.now)) parts.now)) terms.old terms.new [] next.items) }
+    ensures { IfOk result (λ next. AreListed (terms_at terms.old plain.now ++ (flat_map (fields_of
+        signature.now (terms_at terms.old current.now)) functions.now ++ flat_map (code_skolems
+        signature.now (terms_at terms.old current.now)) parts.now)) terms.old terms.new []
+        next.items) }
 {
     let mut next = Vec::from_slice(alloc, plain)?;
     list_functions(alloc, signature, terms, functions, current, &mut next)?;

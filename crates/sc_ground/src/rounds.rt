@@ -32,7 +32,9 @@ pub(crate) fn all_rounds(
 ) -> Result<Vec<u32>, AllocError>
     requires plain { AreOnes terms.old start.plain.now }
     requires first { AreOnes terms.old first.items }
-    ensures { IfOk result (λ last. AreTermsAt terms.new last.items (round_terms signature.now start.entry.functions.now start.entry.parts.now (terms_at terms.old start.entry.plain.now) (terms_at terms.old first.items) rounds)) }
+    ensures { IfOk result (λ last. AreTermsAt terms.new last.items (round_terms signature.now
+        start.entry.functions.now start.entry.parts.now (terms_at terms.old start.entry.plain.now)
+        (terms_at terms.old first.items) rounds)) }
 {
     let mut current = first;
     'rounds: for round in 0..rounds {

@@ -75,7 +75,8 @@ pub(crate) fn terms_from(
 ) -> Result<Terms, AllocError>
     requires first { AreOnes basis.arena basis.first.items }
     requires plain { AreOnes basis.arena basis.plain.items }
-    ensures { IfOk result (λ terms. (f : Formula) → IsBasis signature.now f basis → terms_in terms ≡ terms_after signature.now f rounds) }
+    ensures { IfOk result (λ terms. (f : Formula) → IsBasis signature.now f basis → terms_in terms
+        ≡ terms_after signature.now f rounds) }
 {
     let Basis {
         parts,
@@ -109,9 +110,13 @@ pub fn terms_within(
 ) -> Result<Terms, AllocError>
     requires formula { IsFormula arena.now id }
     requires over { IsOver signature.now [] (formula_of arena.now id) }
-    ensures terms { IfOk result (λ terms. terms_in terms ≡ terms_after signature.now (formula_of arena.now id) rounds) }
-    ensures listed { IfOk result (λ terms. Lists (ArisesWithin signature.now (formula_of arena.now id) rounds) (terms_in terms)) }
-    ensures all { IfOk result (λ terms. IsStratified signature.now (formula_of arena.now id) → rounds ≡ signature.now.sorts → Lists (IsHerbrandTerm signature.now (formula_of arena.now id)) (terms_in terms)) }
+    ensures terms { IfOk result (λ terms. terms_in terms ≡ terms_after signature.now (formula_of
+        arena.now id) rounds) }
+    ensures listed { IfOk result (λ terms. Lists (ArisesWithin signature.now (formula_of arena.now
+        id) rounds) (terms_in terms)) }
+    ensures all { IfOk result (λ terms. IsStratified signature.now (formula_of arena.now id) →
+        rounds ≡ signature.now.sorts → Lists (IsHerbrandTerm signature.now (formula_of arena.now
+        id)) (terms_in terms)) }
 {
     let basis = basis_of(alloc, arena, id, signature)?;
     let terms = terms_from(alloc, signature, basis, rounds)?;

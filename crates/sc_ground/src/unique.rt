@@ -20,7 +20,8 @@ impl Keeper {
     fn keep(&mut self, item: u32) -> Result<(), AllocError>
         requires { item < vec_len self.old.seen }
         ensures size { OnOk result (vec_len self.new.seen ≡ vec_len self.old.seen) }
-        ensures kept { OnOk result ((later : List ℕ) → IsKeeper later self.old → IsKeeper (item ∷ later) self.new) }
+        ensures kept { OnOk result ((later : List ℕ) → IsKeeper later self.old → IsKeeper (item ∷
+            later) self.new) }
     {
         if self.seen[item as usize] {
             return Ok(());

@@ -1,6 +1,18 @@
 //! The parts of a formula, by a walk over its tree.
 
-ghost use Rattle.std.specs.Prelude.{◌≡◌, ◌∷◌, [], ◌++◌, ◌+◌, length, Some, None, slice_get, IfOk, OnOk};
+ghost use Rattle.std.specs.Prelude.{
+  ◌≡◌,
+  ◌∷◌,
+  [],
+  ◌++◌,
+  ◌+◌,
+  length,
+  Some,
+  None,
+  slice_get,
+  IfOk,
+  OnOk,
+};
 ghost use Rattle.sc_formula.specs.Nodes.{IsTerm, IsFormula, formula_of};
 ghost use Rattle.sc_formula.specs.declared.node.Node.{Node as AnyNode};
 ghost use Rattle.sc_terms.specs.Parts.{parts_of};
@@ -43,7 +55,8 @@ impl Walk {
         ensures names { self.new.names.items ≡ self.old.names.items }
         ensures above { self.new.above.items ≡ self.old.above.items }
         ensures number { self.new.number ≡ self.old.number }
-        ensures parts { OnOk result (IsOnePart arena.now self.old.names.items id self.old.parts.items self.new.parts.items) }
+        ensures parts { OnOk result (IsOnePart arena.now self.old.names.items id
+            self.old.parts.items self.new.parts.items) }
     {
         let part = part_of(arena, self.names.as_slice(), id);
         self.parts.push(part)?;
@@ -52,7 +65,8 @@ impl Walk {
 
     /// Goes on to a part that no further quantifier stands above.
     fn enter(&mut self, whole: Pending, part: u32) -> Result<(), AllocError>
-        ensures pending { OnOk result (self.new.pending.items ≡ self.old.pending.items ++ record whole { id = part } ∷ []) }
+        ensures pending { OnOk result (self.new.pending.items ≡ self.old.pending.items ++ record
+            whole { id = part } ∷ []) }
         ensures names { self.new.names.items ≡ self.old.names.items }
         ensures above { self.new.above.items ≡ self.old.above.items }
         ensures number { self.new.number ≡ self.old.number }
@@ -64,7 +78,8 @@ impl Walk {
 
     /// Goes on to both parts.
     fn enter_both(&mut self, whole: Pending, left: u32, right: u32) -> Result<(), AllocError>
-        ensures pending { OnOk result (self.new.pending.items ≡ self.old.pending.items ++ record whole { id = right } ∷ record whole { id = left } ∷ []) }
+        ensures pending { OnOk result (self.new.pending.items ≡ self.old.pending.items ++ record
+            whole { id = right } ∷ record whole { id = left } ∷ []) }
         ensures names { self.new.names.items ≡ self.old.names.items }
         ensures above { self.new.above.items ≡ self.old.above.items }
         ensures number { self.new.number ≡ self.old.number }
@@ -96,7 +111,12 @@ impl Walk {
 
     /// Goes on below a quantifier.
     fn enter_below(&mut self, name: Option<Name>, body: u32) -> Result<(), AllocError>
-        ensures pending { OnOk result (self.new.pending.items ≡ self.old.pending.items ++ record { id = body; quantifiers = length self.old.names.items + 1; universals = length self.old.above.items } ∷ []) }
+        ensures pending { OnOk result (self.new.pending.items ≡ self.old.pending.items ++ record {
+          id = body;
+          quantifiers = length self.old.names.items + 1;
+          universals = length
+              self.old.above.items;
+        } ∷ []) }
         ensures names { OnOk result (self.new.names.items ≡ self.old.names.items ++ name ∷ []) }
         ensures above { self.new.above.items ≡ self.old.above.items }
         ensures number { self.new.number ≡ self.old.number }
@@ -122,7 +142,12 @@ impl Walk {
         ensures names { self.new.names.items ≡ self.old.names.items }
         ensures above { self.new.above.items ≡ self.old.above.items }
         ensures number { self.new.number ≡ self.old.number }
-        ensures parts { OnOk result (self.new.parts.items ≡ self.old.parts.items ++ Part.Existential (record { number = number; sort = sort; above = self.old.above.items }) ∷ []) }
+        ensures parts { OnOk result (self.new.parts.items ≡ self.old.parts.items ++
+            Part.Existential (record {
+              number = number;
+              sort = sort;
+              above = self.old.above.items;
+            }) ∷ []) }
         ensures name { IfOk result (λ name. name ≡ name_below number sort self.old.above.items) }
     {
         let name = if self.above.is_empty() {
@@ -141,11 +166,23 @@ impl Walk {
 
     /// Goes on below an `exists`.
     fn enter_exists(&mut self, alloc: Global, sort: u32, body: u32) -> Result<(), AllocError>
-        ensures pending { OnOk result (self.new.pending.items ≡ self.old.pending.items ++ record { id = body; quantifiers = length self.old.names.items + 1; universals = length self.old.above.items } ∷ []) }
-        ensures names { OnOk result (self.new.names.items ≡ self.old.names.items ++ name_below self.old.number sort self.old.above.items ∷ []) }
+        ensures pending { OnOk result (self.new.pending.items ≡ self.old.pending.items ++ record {
+          id = body;
+          quantifiers = length self.old.names.items + 1;
+          universals = length
+              self.old.above.items;
+        } ∷ []) }
+        ensures names { OnOk result (self.new.names.items ≡ self.old.names.items ++ name_below
+            self.old.number sort self.old.above.items ∷ []) }
         ensures above { self.new.above.items ≡ self.old.above.items }
         ensures number { OnOk result (self.new.number ≡ self.old.number + 1) }
-        ensures parts { OnOk result (self.new.parts.items ≡ self.old.parts.items ++ Part.Existential (record { number = self.old.number; sort = sort; above = self.old.above.items }) ∷ []) }
+        ensures parts { OnOk result (self.new.parts.items ≡ self.old.parts.items ++
+            Part.Existential (record {
+              number = self.old.number;
+              sort = sort;
+              above =
+                  self.old.above.items;
+            }) ∷ []) }
     {
         let number = self.next_number()?;
         let name = self.add_exists(alloc, number, sort)?;
@@ -154,11 +191,17 @@ impl Walk {
 
     /// Goes on below a `forall`.
     fn enter_forall(&mut self, sort: u32, body: u32) -> Result<(), AllocError>
-        ensures pending { OnOk result (self.new.pending.items ≡ self.old.pending.items ++ record { id = body; quantifiers = length self.old.names.items + 1; universals = length self.old.above.items + 1 } ∷ []) }
+        ensures pending { OnOk result (self.new.pending.items ≡ self.old.pending.items ++ record {
+          id = body;
+          quantifiers = length self.old.names.items + 1;
+          universals = length
+              self.old.above.items + 1;
+        } ∷ []) }
         ensures names { OnOk result (self.new.names.items ≡ self.old.names.items ++ None ∷ []) }
         ensures above { OnOk result (self.new.above.items ≡ self.old.above.items ++ sort ∷ []) }
         ensures number { OnOk result (self.new.number ≡ self.old.number + 1) }
-        ensures parts { OnOk result (self.new.parts.items ≡ self.old.parts.items ++ Part.Universal sort ∷ []) }
+        ensures parts { OnOk result (self.new.parts.items ≡ self.old.parts.items ++ Part.Universal
+            sort ∷ []) }
     {
         self.next_number()?;
         self.parts.push(Part::Universal(sort))?;
@@ -194,7 +237,8 @@ fn expand(alloc: Global, arena: &Arena, walk: &mut Walk, whole: Pending) -> Resu
 /// The walk is over the formula as a tree, without recursion.
 pub(crate) fn parts_of(alloc: Global, arena: &Arena, id: u32) -> Result<Vec<Part>, AllocError>
     requires { IsFormula arena.now id }
-    ensures { IfOk result (λ found. AreParts arena.now (parts_of (formula_of arena.now id)) found.items) }
+    ensures { IfOk result (λ found. AreParts arena.now (parts_of (formula_of arena.now id))
+        found.items) }
 {
     let _nodes = arena.len();
     let mut walk = Walk {

@@ -1,0 +1,4 @@
+pub mod Added
+pub mod Clauses
+pub mod Gates
+pub mod Public
