@@ -34,7 +34,8 @@ impl<
     #[tactic(auto, unfolding(sc_forms::specs::Reading::read, sc_tree::specs::ExprGrammar::path_root))]
     fn path_root(&self, cursor: &mut Cursor<'_>) -> Result<Boxed<Expr>, Stop>
         requires { Nests self.now.levels
-            (E.pre self.now.expr) (E.post self.now.expr) (S.pre self.now.set) (S.post self.now.set) }
+            (E.pre self.now.expr) (E.post self.now.expr) (S.pre self.now.set)
+            (S.post self.now.set) }
         ensures { Reads (reading self.now.levels form.path_root cursor.old) result cursor.new }
     {
         if cursor.sees_lower() {
@@ -51,7 +52,8 @@ impl<
     /// A field of what the expression names.
     #[tactic(auto, unfolding(sc_forms::specs::Reading::read))]
     fn get(&self, cursor: &mut Cursor<'_>, of: Boxed<Expr>) -> Result<Boxed<Expr>, Stop>
-        ensures { Reads (made (form.get of) (reading self.now.levels field_form cursor.old)) result cursor.new }
+        ensures { Reads
+            (made (form.get of) (reading self.now.levels field_form cursor.old)) result cursor.new }
     {
         cursor.sign(TokenKind::Dot)?;
         self.get_field(cursor, of)
@@ -60,7 +62,9 @@ impl<
     /// A field behind a dot that is read.
     #[tactic(auto, unfolding(sc_forms::specs::Reading::read))]
     pub fn get_field(&self, cursor: &mut Cursor<'_>, of: Boxed<Expr>) -> Result<Boxed<Expr>, Stop>
-        ensures { Reads (made (form.get of) (reading self.now.levels (token Lower) cursor.old)) result cursor.new }
+        ensures { Reads
+            (made (form.get of)
+            (reading self.now.levels (token Lower) cursor.old)) result cursor.new }
     {
         let word = cursor.lower()?;
         let field = word.named(self.alloc)?;
@@ -71,7 +75,9 @@ impl<
     /// A field of that, and so on.
     #[tactic(auto, unfolding(sc_forms::specs::Reading::read))]
     fn fields(&self, cursor: &mut Cursor<'_>, of: Boxed<Expr>) -> Result<Boxed<Expr>, Stop>
-        ensures { Reads (made (fold form.get of) (reading self.now.levels (each AnyNumber field_form) cursor.old)) result cursor.new }
+        ensures { Reads
+            (made (fold form.get of)
+            (reading self.now.levels (each AnyNumber field_form) cursor.old)) result cursor.new }
     {
         let mut of = of;
         for _turn in 0..cursor.len() {
@@ -86,7 +92,8 @@ impl<
     #[tactic(auto, using(crate::proofs::Folds::made_made), unfolding(sc_forms::specs::Reading::read, sc_tree::specs::ExprGrammar::path))]
     pub fn path(&self, cursor: &mut Cursor<'_>) -> Result<Boxed<Expr>, Stop>
         requires { Nests self.now.levels
-            (E.pre self.now.expr) (E.post self.now.expr) (S.pre self.now.set) (S.post self.now.set) }
+            (E.pre self.now.expr) (E.post self.now.expr) (S.pre self.now.set)
+            (S.post self.now.set) }
         ensures { Reads (reading self.now.levels form.path cursor.old) result cursor.new }
     {
         let root = self.path_root(cursor)?;
@@ -132,7 +139,8 @@ impl<
     #[tactic(auto, unfolding(sc_forms::specs::Reading::read, sc_tree::specs::ExprGrammar::option))]
     fn option(&self, cursor: &mut Cursor<'_>) -> Result<Boxed<Expr>, Stop>
         requires { Nests self.now.levels
-            (E.pre self.now.expr) (E.post self.now.expr) (S.pre self.now.set) (S.post self.now.set) }
+            (E.pre self.now.expr) (E.post self.now.expr) (S.pre self.now.set)
+            (S.post self.now.set) }
         ensures { Reads (reading self.now.levels form.option cursor.old) result cursor.new }
     {
         if cursor.sees_word(TokenKind::Lower, b"none") {
@@ -149,7 +157,8 @@ impl<
     #[tactic(auto, unfolding(sc_forms::specs::Reading::read, sc_tree::specs::ExprGrammar::atom))]
     pub fn atom(&self, cursor: &mut Cursor<'_>) -> Result<Boxed<Expr>, Stop>
         requires { Nests self.now.levels
-            (E.pre self.now.expr) (E.post self.now.expr) (S.pre self.now.set) (S.post self.now.set) }
+            (E.pre self.now.expr) (E.post self.now.expr) (S.pre self.now.set)
+            (S.post self.now.set) }
         ensures { Reads (reading self.now.levels form.atom cursor.old) result cursor.new }
     {
         if cursor.begins_flag() {

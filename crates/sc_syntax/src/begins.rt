@@ -186,7 +186,9 @@ impl Cursor<'_> {
 
     /// What was read, unless something is added to it or taken away next.
     pub fn unless_step<T: Drop>(&self, read: T) -> Result<T, Stop>
-        ensures { Reads (if starts (first first_of form.set_step) self.now then Stuck NotGrammar self.now else Got read self.now) result self.now }
+        ensures { Reads
+            (if starts (first first_of form.set_step) self.now then Stuck NotGrammar self.now else
+            Got read self.now) result self.now }
     {
         if self.begins_step() {
             Err(Stop::NotGrammar)

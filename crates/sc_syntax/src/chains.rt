@@ -32,7 +32,8 @@ impl<
     #[tactic(auto, unfolding(sc_forms::specs::Reading::read))]
     fn last_step(&self, cursor: &mut Cursor<'_>, of: Boxed<SetExpr>) -> Result<Boxed<SetExpr>, Stop>
         requires { Nests self.now.levels
-            (E.pre self.now.expr) (E.post self.now.expr) (S.pre self.now.set) (S.post self.now.set) }
+            (E.pre self.now.expr) (E.post self.now.expr) (S.pre self.now.set)
+            (S.post self.now.set) }
         ensures { Reads (last_step self.now.levels of cursor.old) result cursor.new }
     {
         if !cursor.take(TokenKind::Dot) {
@@ -48,8 +49,11 @@ impl<
     #[tactic(auto, unfolding(sc_forms::specs::Reading::read, sc_tree::specs::ExprGrammar::steps))]
     fn steps(&self, cursor: &mut Cursor<'_>, of: Boxed<SetExpr>) -> Result<Boxed<SetExpr>, Stop>
         requires { Nests self.now.levels
-            (E.pre self.now.expr) (E.post self.now.expr) (S.pre self.now.set) (S.post self.now.set) }
-        ensures { Reads (made (form.step of) (reading self.now.levels form.steps cursor.old)) result cursor.new }
+            (E.pre self.now.expr) (E.post self.now.expr) (S.pre self.now.set)
+            (S.post self.now.set) }
+        ensures { Reads
+            (made (form.step of)
+            (reading self.now.levels form.steps cursor.old)) result cursor.new }
     {
         let mut of = of;
         for _turn in 0..cursor.len() {
@@ -67,7 +71,8 @@ impl<
     #[tactic(auto, using(crate::proofs::Folds::made_made), unfolding(sc_forms::specs::Reading::read, sc_tree::specs::ExprGrammar::found))]
     pub fn found(&self, cursor: &mut Cursor<'_>) -> Result<Boxed<SetExpr>, Stop>
         requires { Nests self.now.levels
-            (E.pre self.now.expr) (E.post self.now.expr) (S.pre self.now.set) (S.post self.now.set) }
+            (E.pre self.now.expr) (E.post self.now.expr) (S.pre self.now.set)
+            (S.post self.now.set) }
         ensures { Reads (reading self.now.levels form.found cursor.old) result cursor.new }
     {
         let of = self.find(cursor)?;
@@ -82,8 +87,11 @@ impl<
         of: Boxed<SetExpr>,
     ) -> Result<Boxed<SetExpr>, Stop>
         requires { Nests self.now.levels
-            (E.pre self.now.expr) (E.post self.now.expr) (S.pre self.now.set) (S.post self.now.set) }
-        ensures { Reads (made (form.step of) (reading self.now.levels form.path_steps cursor.old)) result cursor.new }
+            (E.pre self.now.expr) (E.post self.now.expr) (S.pre self.now.set)
+            (S.post self.now.set) }
+        ensures { Reads
+            (made (form.step of)
+            (reading self.now.levels form.path_steps cursor.old)) result cursor.new }
     {
         if cursor.begins_map() {
             let of = self.map_step(cursor, of)?;
@@ -101,8 +109,10 @@ impl<
         at: u32,
     ) -> Result<Boxed<SetExpr>, Stop>
         requires { Nests self.now.levels
-            (E.pre self.now.expr) (E.post self.now.expr) (S.pre self.now.set) (S.post self.now.set) }
-        ensures { Reads (last_field self.now.levels (SetExpr.Path of at) cursor.old) result cursor.new }
+            (E.pre self.now.expr) (E.post self.now.expr) (S.pre self.now.set)
+            (S.post self.now.set) }
+        ensures { Reads
+            (last_field self.now.levels (SetExpr.Path of at) cursor.old) result cursor.new }
     {
         let set = Boxed::new(self.alloc, SetExpr::Path(of.into_inner(), at))?;
         if !cursor.take(TokenKind::Dot) {
@@ -130,8 +140,11 @@ impl<
         at: u32,
     ) -> Result<Boxed<SetExpr>, Stop>
         requires { Nests self.now.levels
-            (E.pre self.now.expr) (E.post self.now.expr) (S.pre self.now.set) (S.post self.now.set) }
-        ensures { Reads (made (form.step (SetExpr.Path of at)) (reading self.now.levels form.path_steps cursor.old)) result cursor.new }
+            (E.pre self.now.expr) (E.post self.now.expr) (S.pre self.now.set)
+            (S.post self.now.set) }
+        ensures { Reads
+            (made (form.step (SetExpr.Path of at))
+            (reading self.now.levels form.path_steps cursor.old)) result cursor.new }
     {
         let set = Boxed::new(self.alloc, SetExpr::Path(of.into_inner(), at))?;
         self.path_steps(cursor, set)
@@ -146,8 +159,11 @@ impl<
         at: u32,
     ) -> Result<Boxed<SetExpr>, Stop>
         requires { Nests self.now.levels
-            (E.pre self.now.expr) (E.post self.now.expr) (S.pre self.now.set) (S.post self.now.set) }
-        ensures { Reads (made (λ v. v.1 (SetExpr.Path (fold form.get of v.0) at)) (reading self.now.levels chain_form cursor.old)) result cursor.new }
+            (E.pre self.now.expr) (E.post self.now.expr) (S.pre self.now.set)
+            (S.post self.now.set) }
+        ensures { Reads
+            (made (λ v. v.1 (SetExpr.Path (fold form.get of v.0) at))
+            (reading self.now.levels chain_form cursor.old)) result cursor.new }
     {
         let mut of = of;
         for _turn in 0..cursor.len() {
@@ -165,7 +181,8 @@ impl<
     #[tactic(auto, using(crate::proofs::Folds::made_made), unfolding(sc_forms::specs::Reading::read, sc_tree::specs::ExprGrammar::path_chain))]
     pub fn path_chain(&self, cursor: &mut Cursor<'_>) -> Result<Boxed<SetExpr>, Stop>
         requires { Nests self.now.levels
-            (E.pre self.now.expr) (E.post self.now.expr) (S.pre self.now.set) (S.post self.now.set) }
+            (E.pre self.now.expr) (E.post self.now.expr) (S.pre self.now.set)
+            (S.post self.now.set) }
         ensures { Reads (reading self.now.levels form.path_chain cursor.old) result cursor.new }
     {
         let word = cursor.lower()?;

@@ -1,10 +1,12 @@
 //! A cursor over the tokens of a text.
 
-ghost use Rattle.std.specs.Prelude.{◌≡◌, ◌≢◌, ◌≤◌, [], ◌∷◌, ◌↔◌, IsTrue, IsFalse, IfOk, if◌then◌else◌, None, not, nat_le, ◌-◌, length, drop, slice_get};
+ghost use Rattle.std.specs.Prelude.{◌≡◌, ◌≢◌, ◌≤◌, [], ◌∷◌, ◌↔◌, IsTrue, IsFalse, IfOk};
+ghost use Rattle.std.specs.Prelude.{if◌then◌else◌, None, not, nat_le, ◌-◌, length, drop, slice_get};
 ghost use Rattle.std.specs.Str.Parse.{digits_value};
 ghost use Rattle.sc_ast.specs.Pieces.{Piece, pieces_of};
 ghost use Rattle.sc_tree.specs.Forms as forms;
-ghost use Rattle.sc_tree.specs.Forms.{Sign, Word as WordOf, Upper, Lower, Plain, Negated, Literal, NotGrammar, admits, largest};
+ghost use Rattle.sc_tree.specs.Forms.{Sign, Word as WordOf, Upper, Lower, Plain, Negated, Literal};
+ghost use Rattle.sc_tree.specs.Forms.{NotGrammar, admits, largest};
 ghost use Rattle.sc_forms.specs.Reading.{Answer, Got, Stuck, at_most, one, starts};
 ghost use Rattle.sc_syntax.specs.Pieces.{AreTokensIn};
 ghost use Rattle.sc_syntax.specs.Reads.{IsStopWithin, Reads, cause_of};
@@ -195,7 +197,8 @@ impl<'a> Cursor<'a> {
         most: usize,
         read: Result<T, Stop>,
     ) -> Result<T, Stop>
-        ensures { (answer : Answer T) → Reads answer read self.old → Reads (at_most most start.entry answer) result self.new }
+        ensures { (answer : Answer T) → Reads answer read self.old →
+            Reads (at_most most start.entry answer) result self.new }
     {
         match read {
             Ok(read) => self.got_within(start, most, read),
@@ -235,7 +238,8 @@ impl<'a> Cursor<'a> {
 
     /// What was read, unless a token of this kind comes next.
     pub fn unless<T: Drop>(&self, kind: TokenKind, read: T) -> Result<T, Stop>
-        ensures { Reads (if starts (Sign kind ∷ []) self.now then Stuck NotGrammar self.now else Got read self.now) result self.now }
+        ensures { Reads (if starts (Sign kind
+            ∷ []) self.now then Stuck NotGrammar self.now else Got read self.now) result self.now }
     {
         if self.sees(kind) {
             Err(Stop::NotGrammar)

@@ -6,7 +6,8 @@ ghost use Rattle.sc_tree.specs.ExprGrammar.{Expression};
 ghost use Rattle.sc_tree.specs.Forms.{each, AnyNumber, part};
 ghost use Rattle.sc_forms.specs.Reading.{made};
 ghost use Rattle.sc_syntax.specs.Nests.{Nests};
-ghost use Rattle.sc_syntax.specs.Parts.{and_form, and_of, applied, compare_form, member_form, or_form, or_of};
+ghost use Rattle.sc_syntax.specs.Parts.{and_form, and_of, applied, compare_form, member_form};
+ghost use Rattle.sc_syntax.specs.Parts.{or_form, or_of};
 ghost use Rattle.sc_syntax.specs.Reads.{Reads, reading};
 
 use crate::cursor::Cursor;
@@ -25,7 +26,8 @@ impl<
     #[tactic(auto, unfolding(sc_forms::specs::Reading::read, sc_tree::specs::ExprGrammar::unary))]
     fn unary(&self, cursor: &mut Cursor<'_>) -> Result<Boxed<Expr>, Stop>
         requires { Nests self.now.levels
-            (E.pre self.now.expr) (E.post self.now.expr) (S.pre self.now.set) (S.post self.now.set) }
+            (E.pre self.now.expr) (E.post self.now.expr) (S.pre self.now.set)
+            (S.post self.now.set) }
         ensures { Reads (reading self.now.levels form.unary cursor.old) result cursor.new }
     {
         if !cursor.sees(TokenKind::Not) {
@@ -68,7 +70,8 @@ impl<
     #[tactic(auto, unfolding(sc_forms::specs::Reading::read, sc_tree::specs::ExprGrammar::container))]
     fn container(&self, cursor: &mut Cursor<'_>) -> Result<Boxed<SetExpr>, Stop>
         requires { Nests self.now.levels
-            (E.pre self.now.expr) (E.post self.now.expr) (S.pre self.now.set) (S.post self.now.set) }
+            (E.pre self.now.expr) (E.post self.now.expr) (S.pre self.now.set)
+            (S.post self.now.set) }
         ensures { Reads (reading self.now.levels form.container cursor.old) result cursor.new }
     {
         if cursor.begins_path() {
@@ -87,8 +90,11 @@ impl<
     #[tactic(auto, unfolding(sc_forms::specs::Reading::read))]
     fn compare(&self, cursor: &mut Cursor<'_>, left: Boxed<Expr>) -> Result<Boxed<Expr>, Stop>
         requires { Nests self.now.levels
-            (E.pre self.now.expr) (E.post self.now.expr) (S.pre self.now.set) (S.post self.now.set) }
-        ensures { Reads (made (applied left) (reading self.now.levels compare_form cursor.old)) result cursor.new }
+            (E.pre self.now.expr) (E.post self.now.expr) (S.pre self.now.set)
+            (S.post self.now.set) }
+        ensures { Reads
+            (made (applied left)
+            (reading self.now.levels compare_form cursor.old)) result cursor.new }
     {
         let op = self.cmp_op(cursor)?;
         let right = self.unary(cursor)?;
@@ -100,8 +106,10 @@ impl<
     #[tactic(auto, unfolding(sc_forms::specs::Reading::read))]
     fn member(&self, cursor: &mut Cursor<'_>, of: Boxed<Expr>) -> Result<Boxed<Expr>, Stop>
         requires { Nests self.now.levels
-            (E.pre self.now.expr) (E.post self.now.expr) (S.pre self.now.set) (S.post self.now.set) }
-        ensures { Reads (made (applied of) (reading self.now.levels member_form cursor.old)) result cursor.new }
+            (E.pre self.now.expr) (E.post self.now.expr) (S.pre self.now.set)
+            (S.post self.now.set) }
+        ensures { Reads
+            (made (applied of) (reading self.now.levels member_form cursor.old)) result cursor.new }
     {
         cursor.word(TokenKind::Lower, b"in")?;
         let set = self.container(cursor)?;
@@ -113,8 +121,11 @@ impl<
     #[tactic(auto, unfolding(sc_forms::specs::Reading::read, sc_tree::specs::ExprGrammar::comparison))]
     fn comparison(&self, cursor: &mut Cursor<'_>, left: Boxed<Expr>) -> Result<Boxed<Expr>, Stop>
         requires { Nests self.now.levels
-            (E.pre self.now.expr) (E.post self.now.expr) (S.pre self.now.set) (S.post self.now.set) }
-        ensures { Reads (made (applied left) (reading self.now.levels form.comparison cursor.old)) result cursor.new }
+            (E.pre self.now.expr) (E.post self.now.expr) (S.pre self.now.set)
+            (S.post self.now.set) }
+        ensures { Reads
+            (made (applied left)
+            (reading self.now.levels form.comparison cursor.old)) result cursor.new }
     {
         if cursor.begins_cmp() {
             return self.compare(cursor, left);
@@ -128,7 +139,8 @@ impl<
     #[tactic(auto, using(crate::proofs::Folds::made_made), unfolding(sc_forms::specs::Reading::read, sc_tree::specs::ExprGrammar::compared))]
     fn compared(&self, cursor: &mut Cursor<'_>) -> Result<Boxed<Expr>, Stop>
         requires { Nests self.now.levels
-            (E.pre self.now.expr) (E.post self.now.expr) (S.pre self.now.set) (S.post self.now.set) }
+            (E.pre self.now.expr) (E.post self.now.expr) (S.pre self.now.set)
+            (S.post self.now.set) }
         ensures { Reads (reading self.now.levels form.compared cursor.old) result cursor.new }
     {
         let left = self.unary(cursor)?;
@@ -139,8 +151,10 @@ impl<
     #[tactic(auto, unfolding(sc_forms::specs::Reading::read))]
     fn and_right(&self, cursor: &mut Cursor<'_>, left: Boxed<Expr>) -> Result<Boxed<Expr>, Stop>
         requires { Nests self.now.levels
-            (E.pre self.now.expr) (E.post self.now.expr) (S.pre self.now.set) (S.post self.now.set) }
-        ensures { Reads (made (and_of left) (reading self.now.levels and_form cursor.old)) result cursor.new }
+            (E.pre self.now.expr) (E.post self.now.expr) (S.pre self.now.set)
+            (S.post self.now.set) }
+        ensures { Reads
+            (made (and_of left) (reading self.now.levels and_form cursor.old)) result cursor.new }
     {
         cursor.sign(TokenKind::AndAnd)?;
         let right = self.compared(cursor)?;
@@ -152,8 +166,11 @@ impl<
     #[tactic(auto, unfolding(sc_forms::specs::Reading::read))]
     fn ands_right(&self, cursor: &mut Cursor<'_>, left: Boxed<Expr>) -> Result<Boxed<Expr>, Stop>
         requires { Nests self.now.levels
-            (E.pre self.now.expr) (E.post self.now.expr) (S.pre self.now.set) (S.post self.now.set) }
-        ensures { Reads (made (fold and_of left) (reading self.now.levels (each AnyNumber and_form) cursor.old)) result cursor.new }
+            (E.pre self.now.expr) (E.post self.now.expr) (S.pre self.now.set)
+            (S.post self.now.set) }
+        ensures { Reads
+            (made (fold and_of left)
+            (reading self.now.levels (each AnyNumber and_form) cursor.old)) result cursor.new }
     {
         let mut left = left;
         for _turn in 0..cursor.len() {
@@ -168,7 +185,8 @@ impl<
     #[tactic(auto, using(crate::proofs::Folds::made_made), unfolding(sc_forms::specs::Reading::read, sc_tree::specs::ExprGrammar::conjunction))]
     fn conjunction(&self, cursor: &mut Cursor<'_>) -> Result<Boxed<Expr>, Stop>
         requires { Nests self.now.levels
-            (E.pre self.now.expr) (E.post self.now.expr) (S.pre self.now.set) (S.post self.now.set) }
+            (E.pre self.now.expr) (E.post self.now.expr) (S.pre self.now.set)
+            (S.post self.now.set) }
         ensures { Reads (reading self.now.levels form.conjunction cursor.old) result cursor.new }
     {
         let left = self.compared(cursor)?;
@@ -179,8 +197,10 @@ impl<
     #[tactic(auto, unfolding(sc_forms::specs::Reading::read))]
     fn or_right(&self, cursor: &mut Cursor<'_>, left: Boxed<Expr>) -> Result<Boxed<Expr>, Stop>
         requires { Nests self.now.levels
-            (E.pre self.now.expr) (E.post self.now.expr) (S.pre self.now.set) (S.post self.now.set) }
-        ensures { Reads (made (or_of left) (reading self.now.levels or_form cursor.old)) result cursor.new }
+            (E.pre self.now.expr) (E.post self.now.expr) (S.pre self.now.set)
+            (S.post self.now.set) }
+        ensures { Reads
+            (made (or_of left) (reading self.now.levels or_form cursor.old)) result cursor.new }
     {
         cursor.sign(TokenKind::OrOr)?;
         let right = self.conjunction(cursor)?;
@@ -192,8 +212,11 @@ impl<
     #[tactic(auto, unfolding(sc_forms::specs::Reading::read))]
     fn ors_right(&self, cursor: &mut Cursor<'_>, left: Boxed<Expr>) -> Result<Boxed<Expr>, Stop>
         requires { Nests self.now.levels
-            (E.pre self.now.expr) (E.post self.now.expr) (S.pre self.now.set) (S.post self.now.set) }
-        ensures { Reads (made (fold or_of left) (reading self.now.levels (each AnyNumber or_form) cursor.old)) result cursor.new }
+            (E.pre self.now.expr) (E.post self.now.expr) (S.pre self.now.set)
+            (S.post self.now.set) }
+        ensures { Reads
+            (made (fold or_of left)
+            (reading self.now.levels (each AnyNumber or_form) cursor.old)) result cursor.new }
     {
         let mut left = left;
         for _turn in 0..cursor.len() {
@@ -208,7 +231,8 @@ impl<
     #[tactic(auto, using(crate::proofs::Folds::made_made), unfolding(sc_forms::specs::Reading::read, sc_tree::specs::ExprGrammar::disjunction))]
     fn disjunction(&self, cursor: &mut Cursor<'_>) -> Result<Boxed<Expr>, Stop>
         requires { Nests self.now.levels
-            (E.pre self.now.expr) (E.post self.now.expr) (S.pre self.now.set) (S.post self.now.set) }
+            (E.pre self.now.expr) (E.post self.now.expr) (S.pre self.now.set)
+            (S.post self.now.set) }
         ensures { Reads (reading self.now.levels form.disjunction cursor.old) result cursor.new }
     {
         let left = self.conjunction(cursor)?;
@@ -219,7 +243,8 @@ impl<
     #[tactic(auto, unfolding(sc_forms::specs::Reading::read, sc_tree::specs::ExprGrammar::condition))]
     pub fn condition<'a>(&self, cursor: &mut Cursor<'a>) -> Result<(Piece<'a>, Boxed<Expr>), Stop>
         requires { Nests self.now.levels
-            (E.pre self.now.expr) (E.post self.now.expr) (S.pre self.now.set) (S.post self.now.set) }
+            (E.pre self.now.expr) (E.post self.now.expr) (S.pre self.now.set)
+            (S.post self.now.set) }
         ensures { Reads (reading self.now.levels form.condition cursor.old) result cursor.new }
     {
         let word = cursor.word(TokenKind::Lower, b"if")?;
@@ -231,8 +256,11 @@ impl<
     #[tactic(auto, unfolding(sc_forms::specs::Reading::read))]
     fn branches(&self, cursor: &mut Cursor<'_>) -> Result<(Boxed<Expr>, Boxed<Expr>), Stop>
         requires { Nests self.now.levels
-            (E.pre self.now.expr) (E.post self.now.expr) (S.pre self.now.set) (S.post self.now.set) }
-        ensures { Reads (reading self.now.levels (form.branches (part Expression)) cursor.old) result cursor.new }
+            (E.pre self.now.expr) (E.post self.now.expr) (S.pre self.now.set)
+            (S.post self.now.set) }
+        ensures { Reads
+            (reading self.now.levels
+            (form.branches (part Expression)) cursor.old) result cursor.new }
     {
         cursor.word(TokenKind::Lower, b"then")?;
         let one = self.inner_expr(cursor)?;
@@ -244,7 +272,8 @@ impl<
     #[tactic(auto, unfolding(sc_forms::specs::Reading::read, sc_tree::specs::ExprGrammar::if_expr))]
     fn if_expr(&self, cursor: &mut Cursor<'_>) -> Result<Boxed<Expr>, Stop>
         requires { Nests self.now.levels
-            (E.pre self.now.expr) (E.post self.now.expr) (S.pre self.now.set) (S.post self.now.set) }
+            (E.pre self.now.expr) (E.post self.now.expr) (S.pre self.now.set)
+            (S.post self.now.set) }
         ensures { Reads (reading self.now.levels form.if_expr cursor.old) result cursor.new }
     {
         let (word, test) = self.condition(cursor)?;
@@ -257,7 +286,8 @@ impl<
     #[tactic(auto, unfolding(sc_forms::specs::Reading::read, sc_tree::specs::ExprGrammar::scrutinee))]
     pub fn scrutinee<'a>(&self, cursor: &mut Cursor<'a>) -> Result<(Piece<'a>, Boxed<Expr>), Stop>
         requires { Nests self.now.levels
-            (E.pre self.now.expr) (E.post self.now.expr) (S.pre self.now.set) (S.post self.now.set) }
+            (E.pre self.now.expr) (E.post self.now.expr) (S.pre self.now.set)
+            (S.post self.now.set) }
         ensures { Reads (reading self.now.levels form.scrutinee cursor.old) result cursor.new }
     {
         let word = cursor.word(TokenKind::Lower, b"match")?;
@@ -270,8 +300,11 @@ impl<
     #[tactic(auto, unfolding(sc_forms::specs::Reading::read))]
     fn none_branch(&self, cursor: &mut Cursor<'_>) -> Result<Boxed<Expr>, Stop>
         requires { Nests self.now.levels
-            (E.pre self.now.expr) (E.post self.now.expr) (S.pre self.now.set) (S.post self.now.set) }
-        ensures { Reads (reading self.now.levels (form.none_branch (part Expression)) cursor.old) result cursor.new }
+            (E.pre self.now.expr) (E.post self.now.expr) (S.pre self.now.set)
+            (S.post self.now.set) }
+        ensures { Reads
+            (reading self.now.levels
+            (form.none_branch (part Expression)) cursor.old) result cursor.new }
     {
         cursor.word(TokenKind::Lower, b"none")?;
         cursor.sign(TokenKind::Arrow)?;
@@ -282,8 +315,11 @@ impl<
     #[tactic(auto, unfolding(sc_forms::specs::Reading::read))]
     fn some_branch<'a>(&self, cursor: &mut Cursor<'a>) -> Result<(Word<'a>, Boxed<Expr>), Stop>
         requires { Nests self.now.levels
-            (E.pre self.now.expr) (E.post self.now.expr) (S.pre self.now.set) (S.post self.now.set) }
-        ensures { Reads (reading self.now.levels (form.some_branch (part Expression)) cursor.old) result cursor.new }
+            (E.pre self.now.expr) (E.post self.now.expr) (S.pre self.now.set)
+            (S.post self.now.set) }
+        ensures { Reads
+            (reading self.now.levels
+            (form.some_branch (part Expression)) cursor.old) result cursor.new }
     {
         cursor.sign(TokenKind::Bar)?;
         cursor.word(TokenKind::Lower, b"some")?;
@@ -296,7 +332,8 @@ impl<
     #[tactic(auto, unfolding(sc_forms::specs::Reading::read, sc_tree::specs::ExprGrammar::match_expr))]
     fn match_expr(&self, cursor: &mut Cursor<'_>) -> Result<Boxed<Expr>, Stop>
         requires { Nests self.now.levels
-            (E.pre self.now.expr) (E.post self.now.expr) (S.pre self.now.set) (S.post self.now.set) }
+            (E.pre self.now.expr) (E.post self.now.expr) (S.pre self.now.set)
+            (S.post self.now.set) }
         ensures { Reads (reading self.now.levels form.match_expr cursor.old) result cursor.new }
     {
         let (word, of) = self.scrutinee(cursor)?;
@@ -311,7 +348,8 @@ impl<
     #[tactic(auto, unfolding(sc_forms::specs::Reading::read, sc_tree::specs::ExprGrammar::expression))]
     pub fn expression(&self, cursor: &mut Cursor<'_>) -> Result<Boxed<Expr>, Stop>
         requires { Nests self.now.levels
-            (E.pre self.now.expr) (E.post self.now.expr) (S.pre self.now.set) (S.post self.now.set) }
+            (E.pre self.now.expr) (E.post self.now.expr) (S.pre self.now.set)
+            (S.post self.now.set) }
         ensures { Reads (reading self.now.levels form.expression cursor.old) result cursor.new }
     {
         if cursor.begins_if() {

@@ -31,8 +31,10 @@ impl<
     /// An expression, one level deeper.
     pub fn inner_expr(&self, cursor: &mut Cursor<'_>) -> Result<Boxed<Expr>, Stop>
         requires { Nests self.now.levels
-            (E.pre self.now.expr) (E.post self.now.expr) (S.pre self.now.set) (S.post self.now.set) }
-        ensures { Reads (read_part rule first_of self.now.levels Expression cursor.old) result cursor.new }
+            (E.pre self.now.expr) (E.post self.now.expr) (S.pre self.now.set)
+            (S.post self.now.set) }
+        ensures { Reads
+            (read_part rule first_of self.now.levels Expression cursor.old) result cursor.new }
     {
         (self.expr)(self.alloc, cursor, self.levels)
     }
@@ -40,7 +42,8 @@ impl<
     /// A set, one level deeper.
     pub fn inner_set(&self, cursor: &mut Cursor<'_>) -> Result<Boxed<SetExpr>, Stop>
         requires { Nests self.now.levels
-            (E.pre self.now.expr) (E.post self.now.expr) (S.pre self.now.set) (S.post self.now.set) }
+            (E.pre self.now.expr) (E.post self.now.expr) (S.pre self.now.set)
+            (S.post self.now.set) }
         ensures { Reads (read_part rule first_of self.now.levels Set cursor.old) result cursor.new }
     {
         (self.set)(self.alloc, cursor, self.levels)

@@ -1,8 +1,8 @@
 //! Parsers of specifications and migration scripts.
 //!
 //! A recursive descent over the tokens of a text. Each production is a function that equals the
-//! reader of its form (`specs/Reading.antt` of sc_forms), so that what holds of readers holds of the
-//! code: the laws about them are proved in sc_forms, once for the whole grammar.
+//! reader of its form (`specs/Reading.antt` of sc_forms), so that what holds of readers holds of
+//! the code: the laws about them are proved in sc_forms, once for the whole grammar.
 //!
 //! | module | holds |
 //! |---|---|

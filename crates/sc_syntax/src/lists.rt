@@ -24,7 +24,8 @@ impl<
     #[tactic(auto, unfolding(sc_forms::specs::Reading::read, sc_tree::specs::ExprGrammar::item_form))]
     fn item(&self, cursor: &mut Cursor<'_>) -> Result<Item, Stop>
         requires { Nests self.now.levels
-            (E.pre self.now.expr) (E.post self.now.expr) (S.pre self.now.set) (S.post self.now.set) }
+            (E.pre self.now.expr) (E.post self.now.expr) (S.pre self.now.set)
+            (S.post self.now.set) }
         ensures { Reads (reading self.now.levels form.item_form cursor.old) result cursor.new }
     {
         if cursor.sees_upper() {
@@ -38,8 +39,11 @@ impl<
     #[tactic(auto, unfolding(sc_forms::specs::Reading::read))]
     fn more_item(&self, cursor: &mut Cursor<'_>, found: Items<Item>) -> Result<Items<Item>, Stop>
         requires { Nests self.now.levels
-            (E.pre self.now.expr) (E.post self.now.expr) (S.pre self.now.set) (S.post self.now.set) }
-        ensures { Reads (made (pushed found) (reading self.now.levels (behind_comma form.item_form) cursor.old)) result cursor.new }
+            (E.pre self.now.expr) (E.post self.now.expr) (S.pre self.now.set)
+            (S.post self.now.set) }
+        ensures { Reads
+            (made (pushed found)
+            (reading self.now.levels (behind_comma form.item_form) cursor.old)) result cursor.new }
     {
         let mut found = found;
         cursor.sign(TokenKind::Comma)?;
@@ -52,8 +56,12 @@ impl<
     #[tactic(auto, unfolding(sc_forms::specs::Reading::read))]
     fn more_items(&self, cursor: &mut Cursor<'_>, found: Items<Item>) -> Result<Items<Item>, Stop>
         requires { Nests self.now.levels
-            (E.pre self.now.expr) (E.post self.now.expr) (S.pre self.now.set) (S.post self.now.set) }
-        ensures { Reads (made (fold pushed found) (reading self.now.levels (each AnyNumber (behind_comma form.item_form)) cursor.old)) result cursor.new }
+            (E.pre self.now.expr) (E.post self.now.expr) (S.pre self.now.set)
+            (S.post self.now.set) }
+        ensures { Reads
+            (made (fold pushed found)
+            (reading self.now.levels
+            (each AnyNumber (behind_comma form.item_form)) cursor.old)) result cursor.new }
     {
         let mut found = found;
         for _turn in 0..cursor.len() {
@@ -69,8 +77,13 @@ impl<
     #[tactic(auto, using(crate::proofs::Folds::cons_folded), unfolding(sc_forms::specs::Reading::read))]
     fn some_items(&self, cursor: &mut Cursor<'_>) -> Result<Items<Item>, Stop>
         requires { Nests self.now.levels
-            (E.pre self.now.expr) (E.post self.now.expr) (S.pre self.now.set) (S.post self.now.set) }
-        ensures { Reads (made cons_pair (reading self.now.levels (form.item_form ⨾ each AnyNumber (behind_comma form.item_form)) cursor.old)) result cursor.new }
+            (E.pre self.now.expr) (E.post self.now.expr) (S.pre self.now.set)
+            (S.post self.now.set) }
+        ensures { Reads
+            (made cons_pair
+            (reading self.now.levels
+            (form.item_form ⨾ each AnyNumber
+            (behind_comma form.item_form)) cursor.old)) result cursor.new }
     {
         let first = self.item(cursor)?;
         let mut found = Items::new(self.alloc);
@@ -82,8 +95,10 @@ impl<
     #[tactic(auto, unfolding(sc_forms::specs::Reading::read))]
     fn items(&self, cursor: &mut Cursor<'_>) -> Result<Items<Item>, Stop>
         requires { Nests self.now.levels
-            (E.pre self.now.expr) (E.post self.now.expr) (S.pre self.now.set) (S.post self.now.set) }
-        ensures { Reads (reading self.now.levels (listed form.item_form) cursor.old) result cursor.new }
+            (E.pre self.now.expr) (E.post self.now.expr) (S.pre self.now.set)
+            (S.post self.now.set) }
+        ensures { Reads
+            (reading self.now.levels (listed form.item_form) cursor.old) result cursor.new }
     {
         if cursor.begins_item() {
             return self.some_items(cursor);
@@ -94,7 +109,8 @@ impl<
     #[tactic(auto, unfolding(sc_forms::specs::Reading::read, sc_tree::specs::ExprGrammar::list))]
     pub fn list(&self, cursor: &mut Cursor<'_>) -> Result<Boxed<SetExpr>, Stop>
         requires { Nests self.now.levels
-            (E.pre self.now.expr) (E.post self.now.expr) (S.pre self.now.set) (S.post self.now.set) }
+            (E.pre self.now.expr) (E.post self.now.expr) (S.pre self.now.set)
+            (S.post self.now.set) }
         ensures { Reads (reading self.now.levels form.list cursor.old) result cursor.new }
     {
         let open = cursor.sign(TokenKind::BracketOpen)?;
@@ -121,7 +137,8 @@ impl<
     #[tactic(auto, unfolding(sc_forms::specs::Reading::read, sc_tree::specs::ExprGrammar::filter_form))]
     fn filter(&self, cursor: &mut Cursor<'_>) -> Result<Filter, Stop>
         requires { Nests self.now.levels
-            (E.pre self.now.expr) (E.post self.now.expr) (S.pre self.now.set) (S.post self.now.set) }
+            (E.pre self.now.expr) (E.post self.now.expr) (S.pre self.now.set)
+            (S.post self.now.set) }
         ensures { Reads (reading self.now.levels form.filter_form cursor.old) result cursor.new }
     {
         let word = cursor.lower()?;
@@ -143,8 +160,12 @@ impl<
         found: Items<Filter>,
     ) -> Result<Items<Filter>, Stop>
         requires { Nests self.now.levels
-            (E.pre self.now.expr) (E.post self.now.expr) (S.pre self.now.set) (S.post self.now.set) }
-        ensures { Reads (made (pushed found) (reading self.now.levels (behind_comma form.filter_form) cursor.old)) result cursor.new }
+            (E.pre self.now.expr) (E.post self.now.expr) (S.pre self.now.set)
+            (S.post self.now.set) }
+        ensures { Reads
+            (made (pushed found)
+            (reading self.now.levels
+            (behind_comma form.filter_form) cursor.old)) result cursor.new }
     {
         let mut found = found;
         cursor.sign(TokenKind::Comma)?;
@@ -161,8 +182,12 @@ impl<
         found: Items<Filter>,
     ) -> Result<Items<Filter>, Stop>
         requires { Nests self.now.levels
-            (E.pre self.now.expr) (E.post self.now.expr) (S.pre self.now.set) (S.post self.now.set) }
-        ensures { Reads (made (fold pushed found) (reading self.now.levels (each AnyNumber (behind_comma form.filter_form)) cursor.old)) result cursor.new }
+            (E.pre self.now.expr) (E.post self.now.expr) (S.pre self.now.set)
+            (S.post self.now.set) }
+        ensures { Reads
+            (made (fold pushed found)
+            (reading self.now.levels
+            (each AnyNumber (behind_comma form.filter_form)) cursor.old)) result cursor.new }
     {
         let mut found = found;
         for _turn in 0..cursor.len() {
@@ -178,8 +203,13 @@ impl<
     #[tactic(auto, using(crate::proofs::Folds::cons_folded), unfolding(sc_forms::specs::Reading::read))]
     fn some_filters(&self, cursor: &mut Cursor<'_>) -> Result<Items<Filter>, Stop>
         requires { Nests self.now.levels
-            (E.pre self.now.expr) (E.post self.now.expr) (S.pre self.now.set) (S.post self.now.set) }
-        ensures { Reads (made cons_pair (reading self.now.levels (form.filter_form ⨾ each AnyNumber (behind_comma form.filter_form)) cursor.old)) result cursor.new }
+            (E.pre self.now.expr) (E.post self.now.expr) (S.pre self.now.set)
+            (S.post self.now.set) }
+        ensures { Reads
+            (made cons_pair
+            (reading self.now.levels
+            (form.filter_form ⨾ each AnyNumber
+            (behind_comma form.filter_form)) cursor.old)) result cursor.new }
     {
         let first = self.filter(cursor)?;
         let mut found = Items::new(self.alloc);
@@ -191,8 +221,10 @@ impl<
     #[tactic(auto, unfolding(sc_forms::specs::Reading::read))]
     fn filters(&self, cursor: &mut Cursor<'_>) -> Result<Items<Filter>, Stop>
         requires { Nests self.now.levels
-            (E.pre self.now.expr) (E.post self.now.expr) (S.pre self.now.set) (S.post self.now.set) }
-        ensures { Reads (reading self.now.levels (listed form.filter_form) cursor.old) result cursor.new }
+            (E.pre self.now.expr) (E.post self.now.expr) (S.pre self.now.set)
+            (S.post self.now.set) }
+        ensures { Reads
+            (reading self.now.levels (listed form.filter_form) cursor.old) result cursor.new }
     {
         if cursor.sees_lower() {
             return self.some_filters(cursor);
@@ -203,7 +235,8 @@ impl<
     #[tactic(auto, unfolding(sc_forms::specs::Reading::read, sc_tree::specs::ExprGrammar::find))]
     pub fn find(&self, cursor: &mut Cursor<'_>) -> Result<Boxed<SetExpr>, Stop>
         requires { Nests self.now.levels
-            (E.pre self.now.expr) (E.post self.now.expr) (S.pre self.now.set) (S.post self.now.set) }
+            (E.pre self.now.expr) (E.post self.now.expr) (S.pre self.now.set)
+            (S.post self.now.set) }
         ensures { Reads (reading self.now.levels form.find cursor.old) result cursor.new }
     {
         let word = cursor.upper()?;
@@ -218,8 +251,11 @@ impl<
     #[tactic(auto, unfolding(sc_forms::specs::Reading::read))]
     fn find_filters(&self, cursor: &mut Cursor<'_>) -> Result<Items<Filter>, Stop>
         requires { Nests self.now.levels
-            (E.pre self.now.expr) (E.post self.now.expr) (S.pre self.now.set) (S.post self.now.set) }
-        ensures { Reads (reading self.now.levels (form.parens (form.braces (listed form.filter_form))) cursor.old) result cursor.new }
+            (E.pre self.now.expr) (E.post self.now.expr) (S.pre self.now.set)
+            (S.post self.now.set) }
+        ensures { Reads
+            (reading self.now.levels
+            (form.parens (form.braces (listed form.filter_form))) cursor.old) result cursor.new }
     {
         cursor.sign(TokenKind::ParenOpen)?;
         cursor.sign(TokenKind::BraceOpen)?;

@@ -16,7 +16,8 @@ use std::alloc::Global;
 
 /// Why no expression stands below as many as there may be.
 fn expr_stop(cursor: &Cursor<'_>) -> Stop
-    ensures { cause_of result ≡ Some (if starts (first_of Expression) cursor.now then TooDeep else NotGrammar) }
+    ensures { cause_of result
+        ≡ Some (if starts (first_of Expression) cursor.now then TooDeep else NotGrammar) }
 {
     if cursor.begins_expr() {
         Stop::TooDeep
@@ -27,7 +28,8 @@ fn expr_stop(cursor: &Cursor<'_>) -> Stop
 
 /// Why no set stands below as many as there may be.
 fn set_stop(cursor: &Cursor<'_>) -> Stop
-    ensures { cause_of result ≡ Some (if starts (first_of Set) cursor.now then TooDeep else NotGrammar) }
+    ensures { cause_of result
+        ≡ Some (if starts (first_of Set) cursor.now then TooDeep else NotGrammar) }
 {
     if cursor.begins_set() {
         Stop::TooDeep

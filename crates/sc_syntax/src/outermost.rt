@@ -20,7 +20,8 @@ const MOST_TOKENS: usize = 1024;
 /// An expression that no other holds.
 #[tactic(auto, unfolding(sc_forms::specs::Reading::read))]
 pub fn outermost_expression(alloc: Global, cursor: &mut Cursor<'_>) -> Result<Expr, Stop>
-    ensures { Reads (reading most_levels (within most_tokens (part Expression)) cursor.old) result cursor.new }
+    ensures { Reads
+        (reading most_levels (within most_tokens (part Expression)) cursor.old) result cursor.new }
 {
     let start = cursor.mark();
     let read = expr(alloc, cursor, MOST_LEVELS);
@@ -31,7 +32,8 @@ pub fn outermost_expression(alloc: Global, cursor: &mut Cursor<'_>) -> Result<Ex
 /// A set that no other holds.
 #[tactic(auto, unfolding(sc_forms::specs::Reading::read))]
 pub fn outermost_set(alloc: Global, cursor: &mut Cursor<'_>) -> Result<SetExpr, Stop>
-    ensures { Reads (reading most_levels (within most_tokens (part Set)) cursor.old) result cursor.new }
+    ensures { Reads
+        (reading most_levels (within most_tokens (part Set)) cursor.old) result cursor.new }
 {
     let start = cursor.mark();
     let read = set(alloc, cursor, MOST_LEVELS);

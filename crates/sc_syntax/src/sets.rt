@@ -26,8 +26,11 @@ impl<
     #[tactic(auto, unfolding(sc_forms::specs::Reading::read))]
     fn lambda_expr<'a>(&self, cursor: &mut Cursor<'a>) -> Result<(Word<'a>, Boxed<Expr>), Stop>
         requires { Nests self.now.levels
-            (E.pre self.now.expr) (E.post self.now.expr) (S.pre self.now.set) (S.post self.now.set) }
-        ensures { Reads (reading self.now.levels (form.parens (form.lambda (part Expression))) cursor.old) result cursor.new }
+            (E.pre self.now.expr) (E.post self.now.expr) (S.pre self.now.set)
+            (S.post self.now.set) }
+        ensures { Reads
+            (reading self.now.levels
+            (form.parens (form.lambda (part Expression))) cursor.old) result cursor.new }
     {
         cursor.sign(TokenKind::ParenOpen)?;
         let word = cursor.lower()?;
@@ -41,8 +44,11 @@ impl<
     #[tactic(auto, unfolding(sc_forms::specs::Reading::read))]
     fn lambda_set<'a>(&self, cursor: &mut Cursor<'a>) -> Result<(Word<'a>, Boxed<SetExpr>), Stop>
         requires { Nests self.now.levels
-            (E.pre self.now.expr) (E.post self.now.expr) (S.pre self.now.set) (S.post self.now.set) }
-        ensures { Reads (reading self.now.levels (form.parens (form.lambda (part Set))) cursor.old) result cursor.new }
+            (E.pre self.now.expr) (E.post self.now.expr) (S.pre self.now.set)
+            (S.post self.now.set) }
+        ensures { Reads
+            (reading self.now.levels
+            (form.parens (form.lambda (part Set))) cursor.old) result cursor.new }
     {
         cursor.sign(TokenKind::ParenOpen)?;
         let word = cursor.lower()?;
@@ -59,8 +65,11 @@ impl<
         of: Boxed<SetExpr>,
     ) -> Result<Boxed<SetExpr>, Stop>
         requires { Nests self.now.levels
-            (E.pre self.now.expr) (E.post self.now.expr) (S.pre self.now.set) (S.post self.now.set) }
-        ensures { Reads (made (form.step of) (reading self.now.levels form.map_step cursor.old)) result cursor.new }
+            (E.pre self.now.expr) (E.post self.now.expr) (S.pre self.now.set)
+            (S.post self.now.set) }
+        ensures { Reads
+            (made (form.step of)
+            (reading self.now.levels form.map_step cursor.old)) result cursor.new }
     {
         cursor.word(TokenKind::Lower, b"map")?;
         let (word, each) = self.lambda_expr(cursor)?;
@@ -77,8 +86,11 @@ impl<
         of: Boxed<SetExpr>,
     ) -> Result<Boxed<SetExpr>, Stop>
         requires { Nests self.now.levels
-            (E.pre self.now.expr) (E.post self.now.expr) (S.pre self.now.set) (S.post self.now.set) }
-        ensures { Reads (made (form.step of) (reading self.now.levels form.flat_step cursor.old)) result cursor.new }
+            (E.pre self.now.expr) (E.post self.now.expr) (S.pre self.now.set)
+            (S.post self.now.set) }
+        ensures { Reads
+            (made (form.step of)
+            (reading self.now.levels form.flat_step cursor.old)) result cursor.new }
     {
         cursor.word(TokenKind::Lower, b"flat_map")?;
         let (word, each) = self.lambda_set(cursor)?;
@@ -95,8 +107,10 @@ impl<
         left: Boxed<SetExpr>,
     ) -> Result<Boxed<SetExpr>, Stop>
         requires { Nests self.now.levels
-            (E.pre self.now.expr) (E.post self.now.expr) (S.pre self.now.set) (S.post self.now.set) }
-        ensures { Reads (made (applied left) (reading self.now.levels sum_form cursor.old)) result cursor.new }
+            (E.pre self.now.expr) (E.post self.now.expr) (S.pre self.now.set)
+            (S.post self.now.set) }
+        ensures { Reads
+            (made (applied left) (reading self.now.levels sum_form cursor.old)) result cursor.new }
     {
         cursor.sign(TokenKind::Plus)?;
         let right = self.set_term(cursor)?;
@@ -112,8 +126,10 @@ impl<
         left: Boxed<SetExpr>,
     ) -> Result<Boxed<SetExpr>, Stop>
         requires { Nests self.now.levels
-            (E.pre self.now.expr) (E.post self.now.expr) (S.pre self.now.set) (S.post self.now.set) }
-        ensures { Reads (made (applied left) (reading self.now.levels less_form cursor.old)) result cursor.new }
+            (E.pre self.now.expr) (E.post self.now.expr) (S.pre self.now.set)
+            (S.post self.now.set) }
+        ensures { Reads
+            (made (applied left) (reading self.now.levels less_form cursor.old)) result cursor.new }
     {
         cursor.sign(TokenKind::Minus)?;
         let right = self.set_term(cursor)?;
@@ -125,8 +141,11 @@ impl<
     #[tactic(auto, unfolding(sc_forms::specs::Reading::read, sc_tree::specs::ExprGrammar::set_step))]
     fn set_step(&self, cursor: &mut Cursor<'_>, of: Boxed<SetExpr>) -> Result<Boxed<SetExpr>, Stop>
         requires { Nests self.now.levels
-            (E.pre self.now.expr) (E.post self.now.expr) (S.pre self.now.set) (S.post self.now.set) }
-        ensures { Reads (made (form.step of) (reading self.now.levels form.set_step cursor.old)) result cursor.new }
+            (E.pre self.now.expr) (E.post self.now.expr) (S.pre self.now.set)
+            (S.post self.now.set) }
+        ensures { Reads
+            (made (form.step of)
+            (reading self.now.levels form.set_step cursor.old)) result cursor.new }
     {
         if cursor.sees(TokenKind::Plus) {
             return self.add_right(cursor, of);
@@ -138,8 +157,11 @@ impl<
     #[tactic(auto, unfolding(sc_forms::specs::Reading::read))]
     fn set_steps(&self, cursor: &mut Cursor<'_>, of: Boxed<SetExpr>) -> Result<Boxed<SetExpr>, Stop>
         requires { Nests self.now.levels
-            (E.pre self.now.expr) (E.post self.now.expr) (S.pre self.now.set) (S.post self.now.set) }
-        ensures { Reads (made (fold form.step of) (reading self.now.levels (each AnyNumber form.set_step) cursor.old)) result cursor.new }
+            (E.pre self.now.expr) (E.post self.now.expr) (S.pre self.now.set)
+            (S.post self.now.set) }
+        ensures { Reads
+            (made (fold form.step of)
+            (reading self.now.levels (each AnyNumber form.set_step) cursor.old)) result cursor.new }
     {
         let mut of = of;
         for _turn in 0..cursor.len() {
@@ -154,7 +176,8 @@ impl<
     #[tactic(auto, using(crate::proofs::Folds::made_made), unfolding(sc_forms::specs::Reading::read, sc_tree::specs::ExprGrammar::sum))]
     fn sum(&self, cursor: &mut Cursor<'_>) -> Result<Boxed<SetExpr>, Stop>
         requires { Nests self.now.levels
-            (E.pre self.now.expr) (E.post self.now.expr) (S.pre self.now.set) (S.post self.now.set) }
+            (E.pre self.now.expr) (E.post self.now.expr) (S.pre self.now.set)
+            (S.post self.now.set) }
         ensures { Reads (reading self.now.levels form.sum cursor.old) result cursor.new }
     {
         let first = self.set_term(cursor)?;
@@ -165,7 +188,8 @@ impl<
     #[tactic(auto, unfolding(sc_forms::specs::Reading::read))]
     fn parenthesized(&self, cursor: &mut Cursor<'_>) -> Result<Boxed<SetExpr>, Stop>
         requires { Nests self.now.levels
-            (E.pre self.now.expr) (E.post self.now.expr) (S.pre self.now.set) (S.post self.now.set) }
+            (E.pre self.now.expr) (E.post self.now.expr) (S.pre self.now.set)
+            (S.post self.now.set) }
         ensures { Reads (reading self.now.levels paren_form cursor.old) result cursor.new }
     {
         let open = cursor.sign(TokenKind::ParenOpen)?;
@@ -177,7 +201,8 @@ impl<
     #[tactic(auto, unfolding(sc_forms::specs::Reading::read, sc_tree::specs::ExprGrammar::set_term))]
     fn set_term(&self, cursor: &mut Cursor<'_>) -> Result<Boxed<SetExpr>, Stop>
         requires { Nests self.now.levels
-            (E.pre self.now.expr) (E.post self.now.expr) (S.pre self.now.set) (S.post self.now.set) }
+            (E.pre self.now.expr) (E.post self.now.expr) (S.pre self.now.set)
+            (S.post self.now.set) }
         ensures { Reads (reading self.now.levels form.set_term cursor.old) result cursor.new }
     {
         if cursor.sees_word(TokenKind::Lower, b"public") {
@@ -208,8 +233,10 @@ impl<
         cursor: &mut Cursor<'_>,
     ) -> Result<(Boxed<SetExpr>, Boxed<SetExpr>), Stop>
         requires { Nests self.now.levels
-            (E.pre self.now.expr) (E.post self.now.expr) (S.pre self.now.set) (S.post self.now.set) }
-        ensures { Reads (reading self.now.levels (form.branches (part Set)) cursor.old) result cursor.new }
+            (E.pre self.now.expr) (E.post self.now.expr) (S.pre self.now.set)
+            (S.post self.now.set) }
+        ensures { Reads
+            (reading self.now.levels (form.branches (part Set)) cursor.old) result cursor.new }
     {
         cursor.word(TokenKind::Lower, b"then")?;
         let one = self.inner_set(cursor)?;
@@ -221,7 +248,8 @@ impl<
     #[tactic(auto, unfolding(sc_forms::specs::Reading::read, sc_tree::specs::ExprGrammar::if_set))]
     fn if_set(&self, cursor: &mut Cursor<'_>) -> Result<Boxed<SetExpr>, Stop>
         requires { Nests self.now.levels
-            (E.pre self.now.expr) (E.post self.now.expr) (S.pre self.now.set) (S.post self.now.set) }
+            (E.pre self.now.expr) (E.post self.now.expr) (S.pre self.now.set)
+            (S.post self.now.set) }
         ensures { Reads (reading self.now.levels form.if_set cursor.old) result cursor.new }
     {
         let (word, test) = self.condition(cursor)?;
@@ -234,8 +262,10 @@ impl<
     #[tactic(auto, unfolding(sc_forms::specs::Reading::read))]
     fn none_set(&self, cursor: &mut Cursor<'_>) -> Result<Boxed<SetExpr>, Stop>
         requires { Nests self.now.levels
-            (E.pre self.now.expr) (E.post self.now.expr) (S.pre self.now.set) (S.post self.now.set) }
-        ensures { Reads (reading self.now.levels (form.none_branch (part Set)) cursor.old) result cursor.new }
+            (E.pre self.now.expr) (E.post self.now.expr) (S.pre self.now.set)
+            (S.post self.now.set) }
+        ensures { Reads
+            (reading self.now.levels (form.none_branch (part Set)) cursor.old) result cursor.new }
     {
         cursor.word(TokenKind::Lower, b"none")?;
         cursor.sign(TokenKind::Arrow)?;
@@ -246,8 +276,10 @@ impl<
     #[tactic(auto, unfolding(sc_forms::specs::Reading::read))]
     fn some_set<'a>(&self, cursor: &mut Cursor<'a>) -> Result<(Word<'a>, Boxed<SetExpr>), Stop>
         requires { Nests self.now.levels
-            (E.pre self.now.expr) (E.post self.now.expr) (S.pre self.now.set) (S.post self.now.set) }
-        ensures { Reads (reading self.now.levels (form.some_branch (part Set)) cursor.old) result cursor.new }
+            (E.pre self.now.expr) (E.post self.now.expr) (S.pre self.now.set)
+            (S.post self.now.set) }
+        ensures { Reads
+            (reading self.now.levels (form.some_branch (part Set)) cursor.old) result cursor.new }
     {
         cursor.sign(TokenKind::Bar)?;
         cursor.word(TokenKind::Lower, b"some")?;
@@ -260,7 +292,8 @@ impl<
     #[tactic(auto, unfolding(sc_forms::specs::Reading::read, sc_tree::specs::ExprGrammar::match_set))]
     fn match_set(&self, cursor: &mut Cursor<'_>) -> Result<Boxed<SetExpr>, Stop>
         requires { Nests self.now.levels
-            (E.pre self.now.expr) (E.post self.now.expr) (S.pre self.now.set) (S.post self.now.set) }
+            (E.pre self.now.expr) (E.post self.now.expr) (S.pre self.now.set)
+            (S.post self.now.set) }
         ensures { Reads (reading self.now.levels form.match_set cursor.old) result cursor.new }
     {
         let (word, of) = self.scrutinee(cursor)?;
@@ -275,7 +308,8 @@ impl<
     #[tactic(auto, unfolding(sc_forms::specs::Reading::read, sc_tree::specs::ExprGrammar::set))]
     pub fn set(&self, cursor: &mut Cursor<'_>) -> Result<Boxed<SetExpr>, Stop>
         requires { Nests self.now.levels
-            (E.pre self.now.expr) (E.post self.now.expr) (S.pre self.now.set) (S.post self.now.set) }
+            (E.pre self.now.expr) (E.post self.now.expr) (S.pre self.now.set)
+            (S.post self.now.set) }
         ensures { Reads (reading self.now.levels form.set cursor.old) result cursor.new }
     {
         if cursor.begins_if_set() {
