@@ -1,3 +1,5 @@
+pub mod Nests
+pub mod Parts
 pub mod Pieces
 pub mod Public
 pub mod Reads

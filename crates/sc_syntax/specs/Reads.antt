@@ -4,7 +4,7 @@ use Rattle.sc_ast.specs.Pieces.{Piece}
 use Rattle.sc_tree.specs.Forms.{Cause, NotGrammar, TooDeep, TooManyTokens, TooManyStatics, TooManyModels, TooManyFields, TooManyCommands}
 use Rattle.sc_tree.specs.ExprGrammar.{G, rule}
 use Rattle.sc_tree.specs.Texts.{first_of}
-use Rattle.sc_forms.specs.Reading.{Answer, Got, Stuck, Reader, read, read_part}
+use Rattle.sc_forms.specs.Reading.{Answer, Got, Stuck, Reader, at_most, read, read_part}
 use Rattle.sc_syntax.specs.declared.stop.Stop.{Stop}
 use Rattle.sc_syntax.specs.declared.stop.Stop.TheVariants as stop
 
@@ -27,3 +27,8 @@ Reads answer (Err stop) rest = (c : Cause) → cause_of stop ≡ Some c → answ
 -- the reader of a form in which parts nest so many levels deep
 abbrev pub reading : {A : Type 0} → ℕ → G A → Reader A
 reading levels f = read first_of (read_part rule first_of levels) f
+
+-- Where a reader stopped for the first cause, a budget of so many tokens stops for the other.
+abbrev pub IsStopWithin : ℕ → List Piece → List Piece → Stop → Stop → List Piece → Type 0
+IsStopWithin most ls rest stop other left =
+    (c d : Cause) → cause_of stop ≡ Some c → cause_of other ≡ Some d → at_most {A = ℕ} most ls (Stuck c rest) ≡ Stuck d left

@@ -1,12 +1,13 @@
 //! A cursor over the tokens of a text.
 
-ghost use Rattle.std.specs.Prelude.{◌≡◌, ◌≢◌, [], ◌∷◌, ◌↔◌, IsTrue, IfOk, length, drop, slice_get};
-ghost use Rattle.sc_ast.specs.Pieces.{pieces_of};
+ghost use Rattle.std.specs.Prelude.{◌≡◌, ◌≢◌, ◌≤◌, [], ◌∷◌, ◌↔◌, IsTrue, IsFalse, IfOk, if◌then◌else◌, None, not, nat_le, ◌-◌, length, drop, slice_get};
+ghost use Rattle.std.specs.Str.Parse.{digits_value};
+ghost use Rattle.sc_ast.specs.Pieces.{Piece, pieces_of};
 ghost use Rattle.sc_tree.specs.Forms as forms;
-ghost use Rattle.sc_tree.specs.Forms.{Sign, Word as WordOf, Upper, Lower, Plain, Negated, Literal, admits};
-ghost use Rattle.sc_forms.specs.Reading.{one, starts};
+ghost use Rattle.sc_tree.specs.Forms.{Sign, Word as WordOf, Upper, Lower, Plain, Negated, Literal, NotGrammar, admits, largest};
+ghost use Rattle.sc_forms.specs.Reading.{Answer, Got, Stuck, at_most, one, starts};
 ghost use Rattle.sc_syntax.specs.Pieces.{AreTokensIn};
-ghost use Rattle.sc_syntax.specs.Reads.{Reads};
+ghost use Rattle.sc_syntax.specs.Reads.{IsStopWithin, Reads, cause_of};
 
 use crate::pieces::{Piece, Word};
 use crate::reserved::{is_reserved_lower, is_reserved_upper};
@@ -47,6 +48,22 @@ fn same_kind(a: TokenKind, b: TokenKind) -> bool
     a == b
 }
 
+/// Whether memory ran out.
+fn is_spent(stop: Stop) -> bool
+    ensures { IsTrue result ↔ (cause_of stop ≡ None) }
+{
+    match stop {
+        Stop::OutOfMemory => true,
+        Stop::NotGrammar
+        | Stop::TooDeep
+        | Stop::TooManyTokens
+        | Stop::TooManyStatics
+        | Stop::TooManyModels
+        | Stop::TooManyFields
+        | Stop::TooManyCommands => false,
+    }
+}
+
 #[tactic(auto, unfolding(sc_tree::specs::Forms::admits))]
 fn is_upper(piece: &Piece<'_>) -> bool
     ensures value { result ≡ admits Upper piece.now }
@@ -67,6 +84,7 @@ fn is_lower(piece: &Piece<'_>) -> bool
 fn is_plain(piece: &Piece<'_>) -> bool
     ensures value { result ≡ admits Plain piece.now }
     ensures kind { IsTrue result → piece.now.kind ≡ TokenKind.Number }
+    ensures within { IsTrue result → digits_value 10 piece.now.bytes ≤ largest }
 {
     same_kind(piece.kind(), TokenKind::Number) && piece.number() <= LARGEST_PLAIN
 }
@@ -75,6 +93,7 @@ fn is_plain(piece: &Piece<'_>) -> bool
 fn is_negated(piece: &Piece<'_>) -> bool
     ensures value { result ≡ admits Negated piece.now }
     ensures kind { IsTrue result → piece.now.kind ≡ TokenKind.Number }
+    ensures some { IsTrue result → 1 ≤ digits_value 10 piece.now.bytes }
 {
     same_kind(piece.kind(), TokenKind::Number) && piece.number() >= 1
 }
@@ -110,8 +129,82 @@ impl<'a> Cursor<'a> {
         self.tokens = &self.tokens[1..];
     }
 
+    /// A cursor at the same place.
+    pub fn mark(&self) -> Cursor<'a>
+        ensures { result ≡ self.now }
+    {
+        Cursor {
+            text: self.text,
+            tokens: self.tokens,
+        }
+    }
+
+    /// Passes over so many tokens.
+    fn pass(&mut self, count: usize)
+        requires { count ≤ length self.old }
+        ensures { self.new ≡ drop count self.old }
+    {
+        let (_, rest) = self.tokens.split_at(count);
+        self.tokens = rest;
+    }
+
+    /// Whether more tokens were taken since the other cursor. It stands at the first too many then.
+    fn overran(&mut self, start: Cursor<'a>, most: usize) -> bool
+        ensures over { result ≡ not (nat_le (length start.entry - length self.old) most) }
+        ensures back { IsTrue result → self.new ≡ drop most start.entry }
+        ensures kept { IsFalse result → self.new ≡ self.old }
+    {
+        let taken = start.len().saturating_sub(self.len());
+        if taken <= most {
+            return false;
+        }
+        *self = start;
+        self.pass(most);
+        true
+    }
+
+    /// What was read from the other cursor on, if it took at most so many tokens.
+    fn got_within<T: Drop>(&mut self, start: Cursor<'a>, most: usize, read: T) -> Result<T, Stop>
+        ensures { Reads (at_most most start.entry (Got read self.old)) result self.new }
+    {
+        if self.overran(start, most) {
+            return Err(Stop::TooManyTokens);
+        }
+        Ok(read)
+    }
+
+    /// Why nothing was read from the other cursor on, or that this took too many tokens.
+    fn stopped_within(&mut self, start: Cursor<'a>, most: usize, stop: Stop) -> Stop
+        ensures within { IsStopWithin most start.entry self.old stop result self.new }
+        ensures spent { cause_of stop ≡ None → cause_of result ≡ None }
+    {
+        if is_spent(stop) {
+            return stop;
+        }
+        if self.overran(start, most) {
+            return Stop::TooManyTokens;
+        }
+        stop
+    }
+
+    /// What was read from the other cursor on, if it took at most so many tokens; else it stands at
+    /// the first token too many.
+    pub fn within<T: Drop>(
+        &mut self,
+        start: Cursor<'a>,
+        most: usize,
+        read: Result<T, Stop>,
+    ) -> Result<T, Stop>
+        ensures { (answer : Answer T) → Reads answer read self.old → Reads (at_most most start.entry answer) result self.new }
+    {
+        match read {
+            Ok(read) => self.got_within(start, most, read),
+            Err(stop) => Err(self.stopped_within(start, most, stop)),
+        }
+    }
+
     /// The next token.
-    fn first(&self) -> Option<Piece<'a>>
+    pub fn first(&self) -> Option<Piece<'a>>
         ensures { result ≡ slice_get self.now 0 }
     {
         let token = *self.tokens.first()?;
@@ -138,6 +231,31 @@ impl<'a> Cursor<'a> {
             Some(piece) => same_kind(piece.kind(), kind) && piece.bytes() == word,
             None => false,
         }
+    }
+
+    /// What was read, unless a token of this kind comes next.
+    pub fn unless<T: Drop>(&self, kind: TokenKind, read: T) -> Result<T, Stop>
+        ensures { Reads (if starts (Sign kind ∷ []) self.now then Stuck NotGrammar self.now else Got read self.now) result self.now }
+    {
+        if self.sees(kind) {
+            Err(Stop::NotGrammar)
+        } else {
+            Ok(read)
+        }
+    }
+
+    /// Takes a token of this kind, if one comes next.
+    #[tactic(auto, unfolding(sc_tree::specs::Forms::admits))]
+    pub fn take(&mut self, kind: TokenKind) -> bool
+        ensures sees { result ≡ starts (Sign kind ∷ []) self.old }
+        ensures taken { IsTrue result → (l : Piece) × (one (Sign kind) self.old ≡ Got l self.new) }
+        ensures kept { IsFalse result → self.new ≡ self.old }
+    {
+        let found = self.sees(kind);
+        if found {
+            self.skip();
+        }
+        found
     }
 
     /// A token of this kind.
@@ -201,6 +319,7 @@ impl<'a> Cursor<'a> {
     pub fn plain(&mut self) -> Result<Piece<'a>, Stop>
         ensures reads { Reads (one Plain self.old) result self.new }
         ensures number { IfOk result (λ l. l.kind ≡ TokenKind.Number) }
+        ensures within { IfOk result (λ l. digits_value 10 l.bytes ≤ largest) }
     {
         match self.first() {
             Some(piece) if is_plain(&piece) => {
@@ -216,6 +335,7 @@ impl<'a> Cursor<'a> {
     pub fn negated(&mut self) -> Result<Piece<'a>, Stop>
         ensures reads { Reads (one Negated self.old) result self.new }
         ensures number { IfOk result (λ l. l.kind ≡ TokenKind.Number) }
+        ensures some { IfOk result (λ l. 1 ≤ digits_value 10 l.bytes) }
     {
         match self.first() {
             Some(piece) if is_negated(&piece) => {

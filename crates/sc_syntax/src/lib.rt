@@ -12,9 +12,21 @@
 //! | `cursor` | `Cursor`, the tokens that are left to read |
 #![tactic(auto)]
 
+mod atoms;
+mod begins;
+mod chains;
 mod cursor;
+mod exprs;
+mod grammar;
+mod lists;
+mod nested;
+mod outermost;
 mod pieces;
 mod reserved;
+mod sets;
 mod stop;
 
+pub use cursor::Cursor;
+pub use outermost::{outermost_expression, outermost_set};
+pub use pieces::{Piece, Word};
 pub use stop::Stop;

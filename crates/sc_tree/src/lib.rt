@@ -4,6 +4,7 @@
 //! |---|---|
 //! | `named` | `Named`, a name at its place; `Reason`, a reason at its own |
 //! | `exprs` | `Expr` and `SetExpr`, with the items of lists and the filters of `Find` |
+//! | `places` | where expressions and sets begin |
 //! | `policies` | `Policy`, and `Init`, what a new field holds at first |
 //! | `models` | `Spec` with its models, fields and types |
 //! | `commands` | `Script` with its commands |
@@ -17,6 +18,7 @@ mod commands;
 mod exprs;
 mod models;
 mod named;
+mod places;
 mod policies;
 
 pub use commands::{Command, Script};
