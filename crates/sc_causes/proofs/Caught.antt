@@ -1,14 +1,13 @@
 -- Where a limit is broken, the reader of a form stops there, or before.
-use Rattle.std.proofs.Common.{◌≡◌, ◌⊎◌, inl, inr, ℕ, List, [], ◌∷◌, ◌++◌, ◌≤◌, ◌<◌, ◌-◌, suc, length, drop, arith, length-append, refl, ap, sym, ◌∙◌, subst, append_assoc, append-nil, Bool, true, false}
-use Rattle.std.specs.Prelude.{if◌then◌else◌, nat_le}
-use Rattle.std.proofs.lemmas.Bool.{leb-true, leb-false, le-leb, lt-leb}
+use Rattle.std.proofs.Common.{◌≡◌, ◌⊎◌, inl, inr, List, [], ◌∷◌, ◌++◌, refl, ap, sym, ◌∙◌, subst, append_assoc, append-nil, Bool, true, false}
+use Rattle.std.specs.Prelude.{if◌then◌else◌}
 use Rattle.sc_ast.specs.Pieces.{Piece}
-use Rattle.sc_tree.specs.Forms.{Want, Cause, NotGrammar, TooDeep, TooManyTokens, TooManyStatics, TooManyModels, TooManyFields, TooManyCommands, ◌then◌, may}
-use Rattle.sc_forms.specs.Reading.{starts, Answer, Got, Stuck, Reader, after, made, at_most}
-use Rattle.sc_forms.proofs.Lists.{compare, Quiet, no_back, true_false, Apart, apart_false, headed}
+use Rattle.sc_tree.specs.Forms.{Want, Cause, ◌then◌}
+use Rattle.sc_forms.specs.Reading.{starts, Answer, Got, Stuck, Reader, after, made}
+use Rattle.sc_forms.proofs.Lists.{compare, Quiet, no_back, Apart, apart_false}
 use Rattle.sc_forms.proofs.Shapes.{Shape, BeginsBoth, quiet}
 use Rattle.sc_forms.proofs.Agrees.{Agrees, BreaksBoth}
-use Rattle.sc_causes.specs.Causes.{GoesFirst, number}
+use Rattle.sc_causes.specs.Causes.{GoesFirst}
 
 -- The answer is a cause that goes before this one.
 pub record Caught {A : Type 0} (ans : Answer A) (c : Cause) (rest : List Piece) : Type 0 where

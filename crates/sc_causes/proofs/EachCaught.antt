@@ -1,5 +1,5 @@
 -- Where a form that stands again and again breaks a limit, its reader stops there, or before.
-use Rattle.std.proofs.Common.{◌≡◌, ◌⊎◌, inl, inr, ℕ, List, [], ◌∷◌, ◌++◌, ◌≤◌, ◌+◌, ◌-◌, suc, zero, length, arith, length-append, refl, ap, sym, ◌∙◌, subst, append_assoc, Bool, true, false}
+use Rattle.std.proofs.Common.{◌≡◌, inl, inr, ℕ, List, [], ◌∷◌, ◌++◌, ◌≤◌, ◌+◌, ◌-◌, suc, zero, length, arith, length-append, refl, ap, sym, ◌∙◌, subst, append_assoc, Bool, true, false}
 use Rattle.std.specs.Prelude.{if◌then◌else◌}
 use Rattle.sc_ast.specs.Pieces.{Piece}
 use Rattle.sc_tree.specs.Forms.{Want, Cause, SpellsEach, ◌then◌, Times, AnyNumber, AtMost, AreWithin, IsFull}
@@ -29,13 +29,20 @@ pub full_piece : (ls : List Piece) → length ls ≡ 1 → ls ≡ [] → ⊥
 full_piece ls e nil = let none : length ls ≡ 0 = ap length nil in omega (arith, e, none)
 
 -- a form and what is read behind it
-step_on : {A : Type 0} (e : Cause) (n : ℕ) (ff : List Want) (rf : Reader A) (ls : List Piece) → starts ff ls ≡ true
+pub step_on : {A : Type 0} (e : Cause) (n : ℕ) (ff : List Want) (rf : Reader A) (ls : List Piece) → starts ff ls ≡ true
     → read_each e (suc n) ff rf ls ≡ after (λ x rest. made (λ xs. x ∷ xs) (read_each e n ff rf rest)) (rf ls)
 unfolding read_each
 step_on {A} e n ff rf ls t =
     ap (λ (b : Bool). if b then after {A = A} {B = List A} (λ x rest. made (λ xs. x ∷ xs) (read_each e n ff rf rest)) (rf ls) else Got [] ls) t
 
-step_over : {A : Type 0} (e : Cause) (ff : List Want) (rf : Reader A) (ls : List Piece) → starts ff ls ≡ true → read_each e 0 ff rf ls ≡ Stuck e ls
+-- no more items
+pub step_off : {A : Type 0} (e : Cause) (n : ℕ) (ff : List Want) (rf : Reader A) (ls : List Piece) → starts ff ls ≡ false → read_each e n ff rf ls ≡ Got [] ls
+unfolding read_each
+step_off {A} e zero ff rf ls t = let at : Bool → Answer (List A) = λ b. if b then Stuck e ls else Got [] ls in ap at t
+step_off {A} e (suc n) ff rf ls t =
+    ap (λ (b : Bool). if b then after {A = A} {B = List A} (λ x rest. made (λ xs. x ∷ xs) (read_each e n ff rf rest)) (rf ls) else Got [] ls) t
+
+pub step_over : {A : Type 0} (e : Cause) (ff : List Want) (rf : Reader A) (ls : List Piece) → starts ff ls ≡ true → read_each e 0 ff rf ls ≡ Stuck e ls
 unfolding read_each
 step_over {A} e ff rf ls t = let at : Bool → Answer (List A) = λ b. if b then Stuck e ls else Got [] ls in ap at t
 

@@ -1,16 +1,16 @@
 -- Where a form that ends items behind a token breaks a limit, its reader stops there, or before.
-use Rattle.std.proofs.Common.{◌≡◌, ◌⊎◌, inl, inr, ℕ, List, [], ◌∷◌, ◌++◌, ◌≤◌, ◌+◌, ◌-◌, suc, zero, length, arith, length-append, refl, ap, sym, ◌∙◌, subst, append_assoc, Bool, true, false, ◌||◌}
+use Rattle.std.proofs.Common.{◌≡◌, inl, inr, ℕ, List, [], ◌∷◌, ◌++◌, ◌≤◌, ◌+◌, ◌-◌, suc, zero, length, arith, length-append, refl, ap, sym, ◌∙◌, subst, append_assoc, Bool, true, false, ◌||◌}
 use Rattle.std.specs.Prelude.{if◌then◌else◌}
 use Rattle.sc_ast.specs.Pieces.{Piece}
-use Rattle.sc_tree.specs.Forms.{Want, admits, Cause, NotGrammar, ◌then◌, Times, AnyNumber, AtMost, AreWithin, IsFull}
+use Rattle.sc_tree.specs.Forms.{Want, admits, Cause, NotGrammar, ◌then◌, Times, AnyNumber, AtMost, AreWithin}
 use Rattle.sc_forms.specs.Reading.{starts, one, Answer, Got, Stuck, Reader, after, made, read_end, excess, turns}
-use Rattle.sc_forms.proofs.Lists.{Quiet, no_back, Apart, headed, true_false}
-use Rattle.sc_forms.proofs.Shapes.{Shape, quiet}
+use Rattle.sc_forms.proofs.Lists.{Quiet, no_back, headed, true_false}
+use Rattle.sc_forms.proofs.Shapes.{quiet}
 use Rattle.sc_forms.proofs.Ended.{Behind, Items, BeginsEnd, BeginsEnded, Ends, taken, wh_apart, ended_shape}
 use Rattle.sc_forms.proofs.Agrees.{Agrees}
 use Rattle.sc_forms.proofs.EndedAgrees.{BrEnd, BrEnded}
 use Rattle.sc_causes.proofs.Caught.{Caught, Catches, caught_is, caught_here, caught_after, caught_made, last_of, last_more, quiet_more, starts_more, begun_starts, apart_starts}
-use Rattle.sc_causes.proofs.EachCaught.{full_piece, More, more_than, turns_left, turns_full}
+use Rattle.sc_causes.proofs.EachCaught.{full_piece, more_than, turns_left, turns_full}
 
 -- ---- the steps of the reader
 
@@ -38,22 +38,22 @@ turn_item {A} {B} ff item rg k e = ap (λ (b : Bool). if b then item k else made
 turn_last : {A B : Type 0} (ff : List Want) (item : List Piece → Answer (List A × B)) (rg : Reader B) (k : List Piece) → starts ff k ≡ false → Turn ff item rg k ≡ made (λ y. ([], y)) (rg k)
 turn_last {A} {B} ff item rg k e = ap (λ (b : Bool). if b then item k else made {B = List A × B} (λ y. ([], y)) (rg k)) e
 
-abbrev onward : {A B : Type 0} → Cause → ℕ → Want → List Want → Reader A → Reader B → Reader B → A → Reader (List A × B)
+abbrev pub onward : {A B : Type 0} → Cause → ℕ → Want → List Want → Reader A → Reader B → Reader B → A → Reader (List A × B)
 onward e n w ff rf rg rh x rest = made (λ v. (x ∷ v.0, v.1)) (read_end e n w ff rf rg rh rest)
 
-end_step : {A B : Type 0} (e : Cause) (n : ℕ) (w : Want) (ff : List Want) (rf : Reader A) (rg rh : Reader B) (h : Piece) (k : List Piece) → admits w h ≡ true → starts ff k ≡ true
+pub end_step : {A B : Type 0} (e : Cause) (n : ℕ) (w : Want) (ff : List Want) (rf : Reader A) (rg rh : Reader B) (h : Piece) (k : List Piece) → admits w h ≡ true → starts ff k ≡ true
     → read_end e (suc n) w ff rf rg rh (h ∷ k) ≡ after (onward e n w ff rf rg rh) (rf k)
 end_step {A} {B} e n w ff rf rg rh h k token first =
     let item : List Piece → Answer (List A × B) = λ k. after (onward e n w ff rf rg rh) (rf k) in
     choice_token w ff item rg rh h k token ∙ turn_item ff item rg k first
 
-end_over : {A B : Type 0} (e : Cause) (w : Want) (ff : List Want) (rf : Reader A) (rg rh : Reader B) (h : Piece) (k : List Piece) → admits w h ≡ true → starts ff k ≡ true
+pub end_over : {A B : Type 0} (e : Cause) (w : Want) (ff : List Want) (rf : Reader A) (rg rh : Reader B) (h : Piece) (k : List Piece) → admits w h ≡ true → starts ff k ≡ true
     → read_end e 0 w ff rf rg rh (h ∷ k) ≡ Stuck e k
 end_over {A} {B} e w ff rf rg rh h k token first =
     let item : List Piece → Answer (List A × B) = λ k. Stuck e k in
     choice_token w ff item rg rh h k token ∙ turn_item ff item rg k first
 
-end_last : {A B : Type 0} (e : Cause) (n : ℕ) (w : Want) (ff : List Want) (rf : Reader A) (rg rh : Reader B) (h : Piece) (k : List Piece) → admits w h ≡ true → starts ff k ≡ false
+pub end_last : {A B : Type 0} (e : Cause) (n : ℕ) (w : Want) (ff : List Want) (rf : Reader A) (rg rh : Reader B) (h : Piece) (k : List Piece) → admits w h ≡ true → starts ff k ≡ false
     → read_end e n w ff rf rg rh (h ∷ k) ≡ made (λ y. ([], y)) (rg k)
 end_last {A} {B} e zero w ff rf rg rh h k token first =
     let item : List Piece → Answer (List A × B) = λ k. Stuck e k in
@@ -62,7 +62,7 @@ end_last {A} {B} e (suc n) w ff rf rg rh h k token first =
     let item : List Piece → Answer (List A × B) = λ k. after (onward e n w ff rf rg rh) (rf k) in
     choice_token w ff item rg rh h k token ∙ turn_last ff item rg k first
 
-end_other : {A B : Type 0} (e : Cause) (n : ℕ) (w : Want) (ff : List Want) (rf : Reader A) (rg rh : Reader B) (ls : List Piece) → starts (w ∷ []) ls ≡ false
+pub end_other : {A B : Type 0} (e : Cause) (n : ℕ) (w : Want) (ff : List Want) (rf : Reader A) (rg rh : Reader B) (ls : List Piece) → starts (w ∷ []) ls ≡ false
     → read_end e n w ff rf rg rh ls ≡ made (λ y. ([], y)) (rh ls)
 end_other {A} {B} e zero w ff rf rg rh ls first =
     let item : List Piece → Answer (List A × B) = λ k. Stuck e k in choice_other w ff item rg rh ls first

@@ -1,10 +1,10 @@
 -- Where a form of the grammar breaks a limit, its reader stops there, or before, at any number of levels.
-use Rattle.std.proofs.Common.{◌≡◌, ◌⊎◌, inl, inr, ℕ, zero, suc, ◌≤◌, arith, List, [], ◌∷◌, ◌++◌, Bool, true, false, ◌&&◌, not, refl, ap, sym, ◌∙◌, subst}
+use Rattle.std.proofs.Common.{◌≡◌, ℕ, zero, suc, ◌≤◌, arith, List, [], ◌∷◌, ◌++◌, Bool, true, false, ◌&&◌, not, refl, ap, sym, ◌∙◌, subst}
 use Rattle.std.specs.Prelude.{if◌then◌else◌}
 use Rattle.sc_ast.specs.Pieces.{Piece}
-use Rattle.sc_tree.specs.Forms.{Form, Want, AnyNumber, AtMost, Cause, NotGrammar, TooDeep, Spells, Begins, Breaks, loosened, may, first, empty, nothing, token, both, either, each, ended, mapped, part, within}
+use Rattle.sc_tree.specs.Forms.{Form, Want, AnyNumber, AtMost, Cause, NotGrammar, TooDeep, Begins, Breaks, may, first, empty, nothing, token, both, either, each, ended, mapped, part, within}
 use Rattle.sc_tree.specs.Levels.{Rules, SpellsPart, BeginsPart, IsTooDeep}
-use Rattle.sc_forms.specs.Reading.{Answer, Got, Stuck, Reader, starts, read, read_part}
+use Rattle.sc_forms.specs.Reading.{Answer, Stuck, Reader, starts, read, read_part}
 use Rattle.sc_forms.proofs.Lists.{both_true, no_back}
 use Rattle.sc_forms.proofs.Tables.{mores, fine, apart}
 use Rattle.sc_forms.proofs.Apart.{apart_sound}

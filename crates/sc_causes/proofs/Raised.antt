@@ -1,5 +1,5 @@
 -- What holds at so many levels holds at more.
-use Rattle.std.proofs.Common.{◌≡◌, ◌⊎◌, inl, inr, ℕ, zero, suc, ◌≤◌, arith, List, [], ◌∷◌, ◌++◌, true, false, refl, subst}
+use Rattle.std.proofs.Common.{◌≡◌, inl, inr, ℕ, zero, suc, ◌≤◌, arith, List, [], ◌∷◌, subst}
 use Rattle.sc_ast.specs.Pieces.{Piece}
 use Rattle.sc_tree.specs.Forms.{Form, Want, Cause, TooDeep, SpellsEach, Spells, Begins, Breaks, loosened, nothing, token, both, either, each, ended, mapped, part, within}
 use Rattle.sc_tree.specs.Levels.{Rules, SpellsPart, BeginsPart, IsTooDeep}

@@ -1,23 +1,21 @@
 -- A list of pieces is refused for the first cause that stands in it, and the reader answers so.
-use Rattle.std.proofs.Common.{◌≡◌, ◌⊎◌, inl, inr, ℕ, ◌≤◌, ◌<◌, ◌+◌, arith, List, [], ◌∷◌, ◌++◌, length, length-append, Bool, true, false, refl, ap, sym, ◌∙◌, subst, append_assoc, append-nil}
+use Rattle.std.proofs.Common.{◌≡◌, ◌⊎◌, inl, inr, ℕ, ◌≤◌, ◌<◌, ◌+◌, arith, List, [], ◌∷◌, ◌++◌, length, length-append, true, refl, ap, sym, ◌∙◌, subst, append_assoc, append-nil}
 use Rattle.sc_ast.specs.Pieces.{Piece}
-use Rattle.sc_tree.specs.Forms.{Form, Cause, NotGrammar, TooDeep, TooManyTokens, TooManyStatics, TooManyModels, TooManyFields, TooManyCommands, Spells, Begins, Breaks, loosened}
+use Rattle.sc_tree.specs.Forms.{Cause, NotGrammar, TooDeep, TooManyTokens, TooManyStatics, TooManyModels, TooManyFields, TooManyCommands, loosened}
 use Rattle.sc_tree.specs.Levels.{SpellsPart, BeginsPart, IsTooDeep}
 use Rattle.sc_tree.specs.ExprGrammar.{G, rule}
 use Rattle.sc_tree.specs.Grammar.{most_levels}
 use Rattle.sc_tree.specs.Texts.{IsSpelled, IsSpelledAt, IsBegunAt, IsBegun, first_of}
 use Rattle.sc_forms.specs.Reading.{Answer, Got, Stuck, read, read_part}
-use Rattle.sc_forms.specs.Answers.{whole, answer, IsNotGrammar, IsOver, Means}
+use Rattle.sc_forms.specs.Answers.{whole, answer, IsNotGrammar, Means}
 use Rattle.sc_forms.proofs.Lists.{compare}
 use Rattle.sc_forms.proofs.Tables.{fine}
-use Rattle.sc_forms.proofs.Shapes.{Shape}
 use Rattle.sc_forms.proofs.FormShapes.{shape}
-use Rattle.sc_forms.proofs.FormAgrees.{Limited}
 use Rattle.sc_forms.proofs.LevelsAgree.{form_agrees, shape_at}
 use Rattle.sc_forms.proofs.GrammarFits.{fits, goes_on}
 use Rattle.sc_forms.proofs.Agrees.{Blocked}
-use Rattle.sc_forms.proofs.WholeLists.{Answers, answers, limited, limited_sound}
-use Rattle.sc_causes.specs.Causes.{IsEnd, IsLimitAt, Stands, GoesFirst, IsRefused, number}
+use Rattle.sc_forms.proofs.WholeLists.{answers, limited, limited_sound}
+use Rattle.sc_causes.specs.Causes.{IsEnd, IsLimitAt, Stands, GoesFirst, IsRefused}
 use Rattle.sc_causes.proofs.Caught.{Caught}
 use Rattle.sc_causes.proofs.WithinCaught.{same_back, no_shorter}
 use Rattle.sc_causes.proofs.Raised.{spells_raised, begins_raised, breaks_raised, part_spells, part_begins, part_deep}
@@ -219,6 +217,9 @@ first_same c d rest other (inr (same, inr h)) (inr k) = (h, same)
 got_stuck : {A : Type 0} {x : A} {c : Cause} {rest other : List Piece} → Got x rest ≡ Stuck c other → ⊥
 got_stuck {A} {x} {c} {rest} {other} e = cc
 
+got_same : {A : Type 0} {x y : A} {rest other : List Piece} → Got x rest ≡ Got y other → x ≡ y
+got_same {A} {x} {y} {rest} {other} e = cc
+
 got_rest : {A : Type 0} {x y : A} {rest other : List Piece} → Got x rest ≡ Got y other → rest ≡ other
 got_rest {A} {x} {y} {rest} {other} e = cc
 
@@ -234,6 +235,7 @@ either_answer f d ls (Stuck c rest) is = inr (c, rest, stuck_refused f d c ls re
 
 pub record OneAnswer {A : Type 0} (f : G A) : Type 0 where
   pub some : (ls : List Piece) → ((x : A) × IsSpelled f x ls) ⊎ ((c : Cause) × (rest : List Piece) × IsRefused f c ls rest)
+  pub one : (x y : A) (ls : List Piece) → IsSpelled f x ls → IsSpelled f y ls → x ≡ y
   pub tree : (x : A) (c : Cause) (ls rest : List Piece) → IsSpelled f x ls → ¬ (Stands c f ls rest)
   pub refusal : (c d : Cause) (ls rest other : List Piece) → IsRefused f c ls rest → IsRefused f d ls other → (c ≡ d) × (rest ≡ other)
   pub got : (x : A) (ls rest : List Piece) → answer f ls ≡ Got x rest → (rest ≡ []) × IsSpelled f x ls
@@ -242,6 +244,9 @@ pub record OneAnswer {A : Type 0} (f : G A) : Type 0 where
 pub one_answer : {A : Type 0} (f : G A) → Decided f → OneAnswer f
 one_answer f decided = record {
   some = λ ls. either_answer f decided ls (answer f ls) refl;
+  one = λ x y ls h k.
+      let a = answers f decided.is_fine decided.is_limited in
+      got_same (sym (a.read x ls h) ∙ a.read y ls k);
   tree = λ x c ls rest h s.
       let k = stands_caught f decided c ls rest s in
       got_stuck (sym ((answers f decided.is_fine decided.is_limited).read x ls h) ∙ k.is);

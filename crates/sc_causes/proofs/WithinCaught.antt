@@ -8,8 +8,8 @@ use Rattle.sc_forms.specs.Reading.{Answer, Got, Stuck, Reader, at_most}
 use Rattle.sc_forms.proofs.Lists.{compare}
 use Rattle.sc_forms.proofs.Shapes.{Shape}
 use Rattle.sc_forms.proofs.Agrees.{Agrees, Blocked, blocked_all, IsBroken, Sound, BrWithin}
-use Rattle.sc_causes.specs.Causes.{GoesFirst, number}
-use Rattle.sc_causes.proofs.Caught.{Caught, Catches, caught_here, caught_is}
+use Rattle.sc_causes.specs.Causes.{number}
+use Rattle.sc_causes.proofs.Caught.{Caught, Catches, caught_here}
 
 drop_front : (n : ℕ) (a b : List Piece) → length a ≡ n → drop n (a ++ b) ≡ b
 drop_front zero [] b e = refl

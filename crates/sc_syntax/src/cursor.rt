@@ -207,7 +207,7 @@ impl<'a> Cursor<'a> {
     }
 
     /// The next token.
-    fn first(&self) -> Option<Piece<'a>>
+    pub fn first(&self) -> Option<Piece<'a>>
         ensures { result ≡ slice_get self.now 0 }
     {
         let token = *self.tokens.first()?;

@@ -28,4 +28,5 @@ mod stop;
 
 pub use cursor::Cursor;
 pub use outermost::{outermost_expression, outermost_set};
+pub use pieces::{Piece, Word};
 pub use stop::Stop;
