@@ -4,7 +4,7 @@ pub mod CollectedClauses
 pub mod Droppings
 pub mod Entailment
 pub mod Extensions
-pub mod Generations
+pub mod LearnedClauses
 pub mod Looks
 pub mod MarkedTrails
 pub mod Parts
@@ -18,7 +18,7 @@ pub mod SetMarks
 pub mod Shown
 pub mod TakenBack
 pub mod TheoryLists
-pub mod Thinning
+pub mod Minimizing
 pub mod Trails
 pub mod WorkLeft
 pub mod ValuesSet

@@ -64,9 +64,9 @@ module _ {T M L : Type 0} {capacity : T → ℕ} {takes : T → L → Bool} {mod
         (λ a lawful agrees. opposite a lawful (rw (← kept) (AgreesMarked-fewer a more fewer new.entries has agrees)))
 
 -- what is forced lasts as marks that the others force are taken away, and levels in which nothing is marked
-pub forced_thinned : {T M L : Type 0} {capacity : T → ℕ} {takes : T → L → Bool} {models : T → M → Bool} (meets : M → L → Bool) {first second third : ContextView T L} → SameProblem capacity takes models first second → SameProblem capacity takes models second third → (marks thinned : List Bool) (vars : ℕ) (l : PLit)
-    → ForcesMarked (Lawful models meets first) marks second.entries l → IsAsStrong (Lawful models meets second) second.entries thinned marks → IsDropped thinned vars second.entries third.entries → ForcesMarked (Lawful models meets third) thinned third.entries l
-forced_thinned meets before after marks thinned vars l forced strong gone a lawful agrees =
+pub forced_minimized : {T M L : Type 0} {capacity : T → ℕ} {takes : T → L → Bool} {models : T → M → Bool} (meets : M → L → Bool) {first second third : ContextView T L} → SameProblem capacity takes models first second → SameProblem capacity takes models second third → (marks minimized : List Bool) (vars : ℕ) (l : PLit)
+    → ForcesMarked (Lawful models meets first) marks second.entries l → IsAsStrong (Lawful models meets second) second.entries minimized marks → IsDropped minimized vars second.entries third.entries → ForcesMarked (Lawful models meets third) minimized third.entries l
+forced_minimized meets before after marks minimized vars l forced strong gone a lawful agrees =
     let at_second = Lawful-before meets after a lawful in
     forced a (Lawful-before meets before a at_second) (strong a at_second (gone.agrees a agrees))
 

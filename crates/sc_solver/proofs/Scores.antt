@@ -4,15 +4,15 @@ use Rattle.std.proofs.lemmas.List.{length-map}
 use Rattle.std.proofs.Math.ListN.{length-set}
 use Rattle.sc_solver.specs.declared.literal.PLit.{PLit}
 use Rattle.sc_solver.specs.declared.preferences.TheConstants.{LARGEST_STEP, SCALE}
-use Rattle.sc_solver.specs.Preferences.{PreferencesView, capped, raised, raised_all, scaled_down, aged}
+use Rattle.sc_solver.specs.Preferences.{PreferencesView, capped, bumped, bumped_all, scaled_down, decayed}
 
-pub length-raised_all : (p : PreferencesView) (clause : List PLit) → length (raised_all p clause).scores ≡ length p.scores
-length-raised_all p [] = refl
-length-raised_all p (l ∷ ls) =
-    length-raised_all (raised p l.var) ls ∙ length-set p.scores l.var (capped (slice_index p.scores l.var + p.step))
+pub length-bumped_all : (p : PreferencesView) (clause : List PLit) → length (bumped_all p clause).scores ≡ length p.scores
+length-bumped_all p [] = refl
+length-bumped_all p (l ∷ ls) =
+    length-bumped_all (bumped p l.var) ls ∙ length-set p.scores l.var (capped (slice_index p.scores l.var + p.step))
 
-pub length-aged : (p : PreferencesView) → length (aged p).scores ≡ length p.scores
-length-aged p =
+pub length-decayed : (p : PreferencesView) → length (decayed p).scores ≡ length p.scores
+length-decayed p =
     let step = capped (p.step + p.step / 16) in
     let older : PreferencesView = record p { scores = scaled_down p.scores; step = step / SCALE } in
     let same : PreferencesView = record p { step = step } in

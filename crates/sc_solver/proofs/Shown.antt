@@ -20,7 +20,7 @@ use Rattle.sc_solver.specs.declared.reason.Reason.{Reason}
 use Rattle.sc_solver.specs.declared.reason.Reason.TheVariants.{Given, Learned, Unknown}
 use Rattle.sc_solver.specs.Learned.{LearnedView, clause_of, learned_list}
 use Rattle.sc_solver.specs.Watches.{IsMet, clause_in}
-use Rattle.sc_solver.proofs.Generations.{clause_of-there}
+use Rattle.sc_solver.proofs.LearnedClauses.{clause_of-there}
 use Rattle.sc_solver.proofs.Assigned.{assigned_is_lawful, assigned_is_shown}
 use Rattle.sc_solver.proofs.Entailment.{conflict_not_met, unit_is_true}
 

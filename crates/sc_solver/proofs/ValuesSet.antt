@@ -1,5 +1,5 @@
 -- Values of variables, by the trail that has them.
-use Rattle.std.proofs.Common.{◌≡◌, ◌≢◌, ◌⊎◌, ℕ, ◌<◌, ◌≤◌, Bool, true, false, List, [], ◌∷◌, length, get_or, set, replicate, cond, map, Option, Some, None, inl, inr, refl, sym, ap, ◌∙◌, arith, zero-add, length-set, get_or-set_same, get_or-set_other}
+use Rattle.std.proofs.Common.{◌≡◌, ◌≢◌, ◌⊎◌, ℕ, ◌<◌, Bool, true, false, List, [], ◌∷◌, length, get_or, set, replicate, cond, map, Option, Some, None, inl, inr, refl, sym, ap, ◌∙◌, arith, zero-add, length-set, get_or-set_same, get_or-set_other}
 use Rattle.std.specs.List.{All, Contains, slice_get}
 use Rattle.std.proofs.lemmas.List.Elements.{All-contains}
 use Rattle.std.specs.Bool.{OnTrue}
@@ -10,13 +10,13 @@ use Rattle.std.proofs.lemmas.List.FromFn.{get_or-map-range_with_len, length-map-
 use Rattle.sc_solver.specs.declared.literal.PLit.{PLit}
 use Rattle.sc_solver.specs.declared.trail.Entry.{Entry}
 use Rattle.sc_solver.specs.declared.units.ClauseState.TheVariants.{Conflict}
-use Rattle.sc_solver.specs.Assignment.{signed, value_at}
-use Rattle.sc_solver.specs.Assumed.{AgreesBelow, IsExtended, values_of}
+use Rattle.sc_solver.specs.Assignment.{signed}
+use Rattle.sc_solver.specs.Assumed.{IsExtended, values_of}
 use Rattle.sc_solver.specs.Clauses.{IsWithin}
 use Rattle.sc_solver.specs.SolverInside.{values_by}
 use Rattle.sc_solver.specs.Trail.{assignment_of, value_in, literal_in}
-use Rattle.sc_solver.specs.Units.{IsAt, IsFalseIn, IsOpen, IsUnit}
-use Rattle.sc_solver.specs.Values.{set_value, AgreesWith, Follow, IsClash, IsFalseBy, IsQuiet, IsUnitBy, Stay}
+use Rattle.sc_solver.specs.Units.{IsAt, IsFalseIn, IsOpen}
+use Rattle.sc_solver.specs.Values.{set_value, Follow, IsClash, IsFalseBy, IsQuiet, Stay}
 use Rattle.sc_solver.proofs.Shown.{All-at}
 use Rattle.sc_solver.proofs.Trails.{value_in-here, value_in-other}
 

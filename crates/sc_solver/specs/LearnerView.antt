@@ -1,7 +1,6 @@
 -- What a contract sees of a `Learner`, and what holds of it at each step.
-use Rattle.std.specs.Prelude.{◌≡◌, ◌≢◌, ◌↔◌, ℕ, Bool, false, List, Option, Some, None, All, IsTrue, IsSomeAnd, MatchOption, slice_index_or, slice_set}
+use Rattle.std.specs.Prelude.{◌≡◌, ◌≢◌, ◌↔◌, ℕ, Bool, false, List, Option, Some, All, IsTrue, IsSomeAnd, slice_index_or, slice_set}
 use Rattle.std.specs.Bool.{OnTrue, OnFalse}
-use Rattle.std.specs.List.{slice_get}
 use Rattle.sc_solver.specs.declared.literal.PLit.{PLit}
 use Rattle.sc_solver.specs.declared.trail.Entry.{Entry}
 use Rattle.sc_solver.specs.declared.reason.Reason.{Reason}
@@ -44,15 +43,15 @@ abbrev pub IsExplained : {T L : Type 0} → LearnerView T L → List Bool → PL
 IsExplained s marks l = IsSomeAnd (clause_by s (slice_index_or s.reasons l.var Unknown)) (IsMarkedBut (slice_set marks l.var false) s.state.entries (Some l))
 
 -- no literal that follows by its reason from other marked ones is marked itself
-abbrev pub IsThin : {T L : Type 0} → LearnerView T L → List Bool → List Entry → Type 0
-IsThin s marks entries = All (λ (e : Entry). OnFalse e.decided (IsTrue (value_at marks e.literal.var) → ¬ IsExplained s marks e.literal)) entries
+abbrev pub IsMinimal : {T L : Type 0} → LearnerView T L → List Bool → List Entry → Type 0
+IsMinimal s marks entries = All (λ (e : Entry). OnFalse e.decided (IsTrue (value_at marks e.literal.var) → ¬ IsExplained s marks e.literal)) entries
 
 -- The mark of a literal is taken away, where it was not decided and follows; `root` says that nothing
 -- before it was decided, and `next_root` that nothing up to it was.
-pub record IsThinnedAt {T L : Type 0} (s : LearnerView T L) (marks : List Bool) (root : Bool) (e : Entry) (next_root : Bool) : Type 0 where
+pub record IsMinimizedAt {T L : Type 0} (s : LearnerView T L) (marks : List Bool) (root : Bool) (e : Entry) (next_root : Bool) : Type 0 where
   pub next_root_is : IsTrue next_root ↔ (IsTrue root × (e.decided ≡ false))
   pub fewer : HasMarks s.marks marks
   pub others : (var : ℕ) → var ≢ e.literal.var → value_at marks var ≡ value_at s.marks var
   pub decided : OnTrue e.decided (marks ≡ s.marks)
   pub implied : OnFalse e.decided (IsTrue root → value_at marks e.literal.var ≡ false)
-  pub thin : OnFalse e.decided (IsTrue (value_at marks e.literal.var) → ¬ IsExplained s marks e.literal)
+  pub minimal : OnFalse e.decided (IsTrue (value_at marks e.literal.var) → ¬ IsExplained s marks e.literal)

@@ -1,5 +1,5 @@
 -- What a look at a watched clause shows.
-use Rattle.std.specs.Prelude.{◌≡◌, ℕ, ◌<◌, ◌+◌, ◌*◌, ◌^◌, List, length, Option, Some, None, All, IsSomeAnd}
+use Rattle.std.specs.Prelude.{◌≡◌, ℕ, ◌<◌, ◌*◌, ◌^◌, List, length, Option, Some, None, All, IsSomeAnd}
 use Rattle.std.specs.List.{slice_get}
 use Rattle.sc_solver.specs.declared.literal.PLit.{PLit}
 use Rattle.sc_solver.specs.declared.looking.Look.{Look}

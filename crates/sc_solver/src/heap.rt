@@ -52,8 +52,8 @@ impl Heap {
         }
     }
 
-    /// Moves a variable that is in the heap up to where its score belongs, which was raised.
-    pub fn raise(&mut self, var: u32, scores: &[u64])
+    /// Moves a variable that is in the heap up to where its score belongs, which was bumped.
+    pub fn bump(&mut self, var: u32, scores: &[u64])
         requires within { var < self.old }
         requires one_each { length scores.now ≡ self.old }
         ensures { self.new ≡ self.old }

@@ -1,60 +1,52 @@
-ghost use Rattle.std.specs.Prelude.{◌≡◌, ◌<◌, ◌≤◌, ◌+◌, ◌*◌, ◌^◌, [], Some, length, IfOk, All};
+ghost use Rattle.std.specs.Prelude.{◌≡◌, ◌↔◌, ◌⊎◌, ◌<◌, ◌≤◌, ◌∷◌, ◌++◌, [], Some, length, IfOk, IsTrue, All};
+ghost use Rattle.std.specs.List.{Contains};
 ghost use Rattle.std.specs.Option.{option_map};
-ghost use Rattle.sc_solver.specs.Clauses.{ClausesView};
+ghost use Rattle.sc_solver.specs.Clauses.{ClausesView, HasRoom};
 ghost use Rattle.sc_solver.specs.Learned.{IsAmong, clause_of, learned_list};
 
+use crate::activities::Activities;
+use crate::allowance::Allowance;
 use crate::clauses::Clauses;
 use crate::literal::PLit;
 use std::alloc::{AllocError, Global};
 use std::marker::Model;
 use std::mem;
 
-/// Clauses that were learned, in two generations with room for as many each. Where the later one
-/// is full, the earlier one is forgotten and the later one takes its place. Each generation has half
-/// of the slots by which clauses are named. Contracts see both generations, their slots, and how
-/// many literals a clause has at most.
+/// Clauses that were learned, with room for so many. From time to time those are forgotten that had
+/// least part in late conflicts (Eén and Sörensson, "An extensible SAT-solver", 2003): which they are
+/// rests on no proof. A clause is named by its slot, which `reduce` changes. Contracts see the clauses
+/// and the room for them, and how many literals a clause has at most.
 #[derive(Drop)]
 pub struct Learned {
-    earlier: Clauses,
-    later: Clauses,
-    /// The first slot of the later ones.
-    base: usize,
-    most: usize,
+    clauses: Clauses,
+    /// Where those are gathered that are kept.
+    spare: Clauses,
+    activities: Activities,
+    allowance: Allowance,
     width: usize,
 }
 
 impl Model for Learned {
-    ghost use Rattle.sc_solver.specs.Learned.{LearnedView, AreGenerations};
+    ghost use Rattle.sc_solver.specs.Learned.{LearnedView, IsWide};
 
     ghost Value = { LearnedView };
 
-    ghost view = { λ l. record {
-      earlier = l.earlier;
-      later = l.later;
-      base = l.base;
-      most = l.most;
-      width = l.width;
-    } };
+    ghost view = { λ l. record { clauses = l.clauses; width = l.width } };
 
-    ghost invariant = { λ l. AreGenerations (record {
-      earlier = l.earlier;
-      later = l.later;
-      base = l.base;
-      most = l.most;
-      width = l.width;
-    }) };
+    ghost invariant = { λ l. IsWide l.width l.clauses × IsWide l.width l.spare };
 }
 
 impl Learned {
-    /// Nothing learned, with room for so many clauses and for so many literals in each generation.
+    /// Nothing learned, with room for so many clauses and for so many literals in all, beside so many
+    /// clauses that are given.
     pub fn new(
         alloc: Global,
         most: usize,
         literals: usize,
         width: usize,
+        given: usize,
     ) -> Result<Learned, AllocError>
         requires some { 0 < most }
-        requires few { most < 2 ^ 19 }
         requires width { width ≤ literals }
         ensures { let room : ClausesView = record {
           list = [];
@@ -62,59 +54,132 @@ impl Learned {
           literal_room = literals;
           clause_room = most;
         } in
-            IfOk result (λ l. l ≡ record {
-              earlier = room;
-              later = room;
-              base = 0;
-              most = most;
-              width = width;
-            }) }
+            IfOk result (λ l. l ≡ record { clauses = room; width = width }) }
     {
-        let earlier = Clauses::with_room(alloc, most, literals)?;
-        let later = Clauses::with_room(alloc, most, literals)?;
         Ok(Learned {
-            earlier,
-            later,
-            base: 0,
-            most,
+            clauses: Clauses::with_room(alloc, most, literals)?,
+            spare: Clauses::with_room(alloc, most, literals)?,
+            activities: Activities::new(alloc, most)?,
+            allowance: Allowance::new(given),
             width,
         })
+    }
+
+    /// How many clauses there are.
+    pub fn len(&self) -> usize
+        ensures { result ≡ length (learned_list self.now) }
+    {
+        self.clauses.len()
     }
 
     /// The clause of a slot, where there is one.
     pub fn clause(&self, slot: usize) -> Option<&[PLit]>
         ensures { option_map (λ clause. clause.now) result ≡ clause_of self.now slot }
     {
-        if self.base <= slot && slot - self.base < self.most {
-            return self.later.get(slot - self.base);
-        }
-        let base = self.most - self.base;
-        if base <= slot {
-            self.earlier.get(slot - base)
-        } else {
-            None
-        }
+        self.clauses.get(slot)
     }
 
-    /// Puts a clause behind the others, and gives its slot. Where the later ones leave no room for
-    /// it, they take the place of the earlier ones, which are forgotten.
+    /// Whether there is room for one clause more of as many literals as it can have.
+    pub fn has_room(&self) -> bool
+        ensures { IsTrue result ↔ HasRoom self.now.clauses self.now.width }
+    {
+        self.clauses.has_room(self.width)
+    }
+
+    /// Whether there are more clauses than are to be kept, where so many variables are set.
+    pub fn is_crowded(&self, set: usize) -> bool {
+        !self.has_room() || self.allowance.is_spent(self.clauses.len(), set)
+    }
+
+    /// Puts a clause behind the others, and gives its slot. Where there is no room for it, the others
+    /// are forgotten.
     pub fn push(&mut self, clause: &[PLit]) -> usize
         requires { length clause.now ≤ self.old.width }
+        ensures behind { HasRoom self.old.clauses (length clause.now)
+            → learned_list self.new ≡ learned_list self.old ++ clause.now ∷ [] }
         ensures among { All (IsAmong (learned_list self.old) clause.now) (learned_list self.new) }
         ensures here { clause_of self.new result ≡ Some clause.now }
         ensures width { self.new.width ≡ self.old.width }
-        ensures most { self.new.most ≡ self.old.most }
     {
-        let place = self.later.len();
-        if place < self.most && self.later.has_room(clause.len()) {
-            self.later.push_within(clause);
-            self.base + place
-        } else {
-            self.base = self.most - self.base;
-            mem::swap(&mut self.earlier, &mut self.later);
-            self.later.clear();
-            self.later.push_within(clause);
-            self.base
+        self.make_room(clause.len());
+        let slot = self.clauses.len();
+        self.clauses.push_within(clause);
+        self.activities.enter(slot);
+        self.allowance.count();
+        slot
+    }
+
+    /// Makes room for a clause of so many literals, where there is none, by forgetting all others.
+    fn make_room(&mut self, literals: usize)
+        requires { literals ≤ self.old.width }
+        ensures room { HasRoom self.new.clauses literals }
+        ensures same { HasRoom self.old.clauses literals → self.new ≡ self.old }
+        ensures list { (learned_list self.new ≡ learned_list self.old) ⊎ (learned_list self.new ≡ []) }
+        ensures width { self.new.width ≡ self.old.width }
+    {
+        if !self.clauses.has_room(literals) {
+            self.clauses.clear();
         }
+    }
+
+    /// Notes that the clause of a slot has part in a conflict.
+    pub fn bump(&mut self, slot: usize)
+        ensures { self.new ≡ self.old }
+    {
+        self.activities.bump(slot);
+    }
+
+    /// Forgets about half of the clauses: those that had least part in late conflicts.
+    pub fn reduce(&mut self)
+        ensures fewer { All (Contains (learned_list self.old)) (learned_list self.new) }
+        ensures width { self.new.width ≡ self.old.width }
+    {
+        keep_active(&self.clauses, &mut self.activities, &mut self.spare);
+        mem::swap(&mut self.clauses, &mut self.spare);
+    }
+}
+
+/// Copies the more active half of some clauses, and lets their activities follow.
+fn keep_active(from: &Clauses, activities: &mut Activities, to: &mut Clauses)
+    ensures contained { All (Contains from.now.list) to.new.list }
+    ensures literal_room { to.old.literal_room ≤ to.new.literal_room }
+    ensures clause_room { to.old.clause_room ≤ to.new.clause_room }
+{
+    let bound = activities.median(from.len());
+    to.clear();
+    for slot in 0..from.len() {
+        keep_clause(from, slot, bound, activities, to);
+    }
+}
+
+/// Copies the clause of a slot where its activity is not below a bound.
+fn keep_clause(
+    from: &Clauses,
+    slot: usize,
+    bound: u64,
+    activities: &mut Activities,
+    to: &mut Clauses,
+)
+    requires { slot < length from.now.list }
+    ensures contained { All (Contains from.now.list) to.old.list → All (Contains from.now.list) to.new.list }
+    ensures literal_room { to.old.literal_room ≤ to.new.literal_room }
+    ensures clause_room { to.old.clause_room ≤ to.new.clause_room }
+{
+    if activities.keeps(slot, bound, from.clause(slot).len()) {
+        activities.follow(slot, to.len());
+        copy_clause(from, slot, to);
+    }
+}
+
+/// Puts the clause of a slot behind others, where there is room for it.
+fn copy_clause(from: &Clauses, slot: usize, to: &mut Clauses)
+    requires { slot < length from.now.list }
+    ensures contained { All (Contains from.now.list) to.old.list → All (Contains from.now.list) to.new.list }
+    ensures literal_room { to.old.literal_room ≤ to.new.literal_room }
+    ensures clause_room { to.old.clause_room ≤ to.new.clause_room }
+{
+    let clause = from.clause(slot);
+    if to.has_room(clause.len()) {
+        to.push_within(clause);
     }
 }

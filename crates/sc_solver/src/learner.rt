@@ -32,11 +32,14 @@ use sc_procedure::{LitBuf, Theory};
 use std::alloc::{AllocError, Global};
 use std::marker::Model;
 
-/// For how many learned clauses a generation has room at least.
-const FEWEST_LEARNED: usize = 256;
+/// For how many learned clauses there is room for each variable.
+const LEARNED_EACH: usize = 256;
 
-/// For how many more it has room at most: for half as many as there are clauses.
-const MOST_LEARNED: usize = 16_384;
+/// For how many there is room for all variables at most.
+const USUAL_LEARNED: usize = 16_384;
+
+/// For how many more there is room at most: for as many as there are clauses.
+const MORE_LEARNED: usize = 65_536;
 
 /// For how many literals a clause it has room, where there are so many variables.
 const USUAL_WIDTH: usize = 32;
@@ -104,15 +107,16 @@ impl<T: Theory + Drop> Learner<T> {
         ensures nothing { IfOk result (λ s.
             (s.marks ≡ replicate vars false) × (learned_list s.learned ≡ [])) }
     {
-        let most = FEWEST_LEARNED + (clauses.len() / 2).min(MOST_LEARNED);
         let width = vars as usize;
+        let usual = (LEARNED_EACH * width).min(USUAL_LEARNED).max(1);
+        let most = usual + clauses.len().min(MORE_LEARNED);
         let literals = (most * width.min(USUAL_WIDTH)).max(width);
-        let learned = Learned::new(alloc, most, literals, width)?;
+        let learned = Learned::new(alloc, most, literals, width, clauses.len())?;
         let reasons = vec![in alloc; Reason::Unknown; vars as usize]?;
         let marks = vec![in alloc; false; vars as usize]?;
         let preferences = Preferences::new(alloc, vars)?;
         let draft = LitBuf::new(alloc, vars as usize)?;
-        let watches = Watches::new(alloc, vars, 2 * most, &clauses)?;
+        let watches = Watches::new(alloc, vars, most, &clauses)?;
         let state = Context::new(alloc, vars, clauses, atoms, theory)?;
         Ok(Learner {
             state,
@@ -267,6 +271,16 @@ impl<T: Theory> Learner<T> {
         self.conclude(literal)
     }
 
+    /// Counts a conflict. A restart is due where there is no room to learn one clause more.
+    fn count(&self, restarts: &mut Restarts)
+        ensures { restarts.new ≡ restarts.old }
+    {
+        restarts.count();
+        if !self.learned.has_room() {
+            restarts.hasten();
+        }
+    }
+
     /// Goes on until there is a lawful assignment or none is left, and says whether there is one.
     pub fn run(&mut self) -> bool
         ensures problem { SameProblem T.capacity T.takes T.models self.old.state self.new.state }
@@ -279,12 +293,12 @@ impl<T: Theory> Learner<T> {
             match progress {
                 Progress::Open if restarts.is_due() => {
                     restarts.take();
-                    self.pop_decisions();
+                    self.begin_anew();
                 }
                 Progress::Open => progress = self.advance(),
                 Progress::Refuted => {
-                    restarts.count();
                     progress = self.backtrack();
+                    self.count(&mut restarts);
                 }
                 Progress::Found => return true,
                 Progress::Exhausted => return false,

@@ -15,6 +15,8 @@
 //! - `progress`: where a search stands.
 //! - `restarts`: when it begins anew.
 //! - `learned`: the clauses that were learned.
+//! - `activities`: which of them had part in late conflicts.
+//! - `allowance`: how many of them are kept.
 //! - `preferences`: which variable is decided next, and how.
 //! - `heap`: variables by their scores.
 //! - `marking`: which literals of the trail a conflict comes from.
@@ -28,6 +30,8 @@
 //! - `literal`: `PLit`, a variable with a sign.
 #![tactic(auto)]
 
+mod activities;
+mod allowance;
 mod asserting;
 mod clauses;
 mod context;

@@ -1,6 +1,6 @@
 ghost use Rattle.std.specs.Prelude.{◌≡◌, ◌≢◌, ◌↔◌, ℕ, ◌<◌, ◌≤◌, None, IsTrue, IfOk, IfSome, MatchOption, false, length, replicate, slice_index, slice_index_or, slice_set};
 ghost use Rattle.sc_solver.specs.Clauses.{IsWithin};
-ghost use Rattle.sc_solver.specs.Preferences.{noted, raised, raised_all, scaled_down, aged};
+ghost use Rattle.sc_solver.specs.Preferences.{noted, bumped, bumped_all, scaled_down, decayed};
 ghost use Rattle.sc_solver.specs.Trail.{value_in};
 
 use crate::heap::Heap;
@@ -9,7 +9,7 @@ use crate::trail::Trail;
 use std::alloc::{AllocError, Global};
 use std::marker::Model;
 
-/// By how much a score is raised at first.
+/// By how much a score is bumped at first.
 const FIRST_STEP: u64 = 1024;
 
 /// Beyond this step the step and the scores are scaled down.
@@ -21,7 +21,7 @@ const SCALE: u64 = 1 << 32;
 /// Which variable is decided next, and how: the one that had most part in the latest conflicts, to
 /// the value that it had last (Moskewicz et al., "Chaff", 2001; Pipatsrisawat and Darwiche, 2007).
 /// Contracts see the score of each variable, from 0 to `u64::MAX`, the value that it had last, and the
-/// step by which a score is raised.
+/// step by which a score is bumped.
 #[derive(Drop)]
 pub struct Preferences {
     scores: Vec<u64>,
@@ -70,29 +70,29 @@ impl Preferences {
         self.values[literal.var as usize] = literal.plus;
     }
 
-    /// Raises the score of a variable that had part in a conflict.
-    pub fn raise(&mut self, var: u32)
+    /// Bumps the score of a variable that had part in a conflict.
+    pub fn bump(&mut self, var: u32)
         requires { var < length self.old.scores }
-        ensures { self.new ≡ raised self.old var }
+        ensures { self.new ≡ bumped self.old var }
     {
         let score = self.scores[var as usize];
         self.scores[var as usize] = score.saturating_add(self.step);
-        self.heap.raise(var, self.scores.as_slice());
+        self.heap.bump(var, self.scores.as_slice());
     }
 
-    /// Raises the scores of the variables of a clause.
-    pub fn raise_all(&mut self, clause: &[PLit])
+    /// Bumps the scores of the variables of a clause.
+    pub fn bump_all(&mut self, clause: &[PLit])
         requires { IsWithin (length self.old.scores) clause.now }
-        ensures { self.new ≡ raised_all self.old clause.now }
+        ensures { self.new ≡ bumped_all self.old clause.now }
     {
         for literal in clause {
-            self.raise(literal.var);
+            self.bump(literal.var);
         }
     }
 
     /// Lets earlier conflicts count less against later ones.
-    pub fn age(&mut self)
-        ensures { self.new ≡ aged self.old }
+    pub fn decay(&mut self)
+        ensures { self.new ≡ decayed self.old }
     {
         self.step = self.step.saturating_add(self.step / 16);
         if self.step > LARGEST_STEP {

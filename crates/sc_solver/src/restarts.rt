@@ -53,6 +53,13 @@ impl Restarts {
         self.conflicts = self.conflicts.saturating_add(1);
     }
 
+    /// Lets it be time to begin anew.
+    pub fn hasten(&mut self)
+        ensures { self.new ≡ self.old }
+    {
+        self.conflicts = self.limit;
+    }
+
     /// Whether it is time to begin anew.
     pub fn is_due(&self) -> bool
         ensures { IsTrue result → 0 < self.now }

@@ -6,7 +6,7 @@ ghost use Rattle.sc_solver.specs.Watches.{IsLookAt, IsMet, clause_in};
 use crate::clauses::Clauses;
 use crate::learned::Learned;
 use crate::literal::PLit;
-use crate::looking::{Look, look_into};
+use crate::looking::{Look, latest_two, look_into};
 use crate::reason::Reason;
 use crate::trail::Trail;
 use crate::units::ClauseState;
@@ -174,6 +174,55 @@ impl Watches {
         ensures { self.new ≡ self.old }
     {
         self.watch(self.learned.saturating_add(place), first, second);
+    }
+
+    /// Lets each learned clause watch its latest literals by its slot, and no other clause by one of
+    /// the first slots.
+    pub fn watch_learned(&mut self, trail: &Trail, learned: &Learned)
+        requires vars { trail.now.vars ≡ self.old.vars }
+        requires within { All (IsWithin trail.now.vars) (learned_list learned.now) }
+        ensures { self.new ≡ self.old }
+    {
+        self.detach_learned();
+        for slot in 0..learned.len() {
+            self.watch_latest(slot, trail, learned);
+        }
+    }
+
+    /// Lets the learned clause of a slot watch its latest literals.
+    fn watch_latest(&mut self, slot: usize, trail: &Trail, learned: &Learned)
+        requires vars { trail.now.vars ≡ self.old.vars }
+        requires within { All (IsWithin trail.now.vars) (learned_list learned.now) }
+        ensures { self.new ≡ self.old }
+    {
+        let Some(clause) = learned.clause(slot) else {
+            return;
+        };
+        if let Some((first, second)) = latest_two(trail, clause) {
+            self.watch(slot, first, second);
+        }
+    }
+
+    /// Takes the nodes of the first slots out of their lists.
+    fn detach_learned(&mut self)
+        ensures { self.new ≡ self.old }
+    {
+        for node in 0..2 * self.learned {
+            self.detach(node);
+        }
+    }
+
+    /// Takes a node out of its list.
+    fn detach(&mut self, node: usize)
+        ensures { self.new ≡ self.old }
+    {
+        self.at = None;
+        if node < self.watched.len() {
+            let node = node as u32;
+            if self.rings.is_linked(node) {
+                self.rings.unlink(node);
+            }
+        }
     }
 
     /// Puts a node into the list of a literal.

@@ -35,7 +35,7 @@ impl<T: Theory> Learner<T> {
             self.preferences.offer(literal.var);
             self.watches.rewind(self.state.len());
             if self.marks[literal.var as usize] {
-                self.preferences.raise(literal.var);
+                self.preferences.bump(literal.var);
                 if entry.decided {
                     return Some(literal.opposite());
                 }
@@ -119,6 +119,20 @@ impl<T: Theory> Learner<T> {
         self.watches.rewind(self.state.len());
     }
 
+    /// Takes all decisions back, and forgets clauses where more were learned than are to be kept.
+    pub fn begin_anew(&mut self)
+        ensures problem { SameProblem T.capacity T.takes T.models self.old.state self.new.state }
+        ensures kept { self.new ≡ record self.old {
+          state = self.new.state;
+          learned = self.new.learned;
+        } }
+        ensures few { length self.new.state.entries ≤ self.new.state.vars }
+    {
+        let set = self.state.len();
+        self.pop_decisions();
+        self.reduce(set);
+    }
+
     /// Takes everything back that is set. What was learned stays.
     pub fn restart(&mut self)
         ensures problem { SameProblem T.capacity T.takes T.models self.old.state self.new.state }
@@ -140,7 +154,7 @@ impl<T: Theory> Learner<T> {
         ensures reached { IsReached T.literals T.models T.meets result self.new.marks self.new.state }
         ensures less { work result self.new.state ≤ rest self.old.state.vars self.old.state.entries }
     {
-        self.thin();
+        self.minimize();
         self.pop_free_levels();
         let reason = self.learn(literal);
         self.follow(literal, reason)

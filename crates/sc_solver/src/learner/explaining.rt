@@ -1,10 +1,12 @@
-ghost use Rattle.std.specs.Prelude.{◌≡◌, ◌<◌, ◌+◌, ◌⊎◌, length, List, Bool, IsTrue, MatchOption, replicate, reverse, slice_get, slice_set, true, false, Some};
+ghost use Rattle.std.specs.Prelude.{◌≡◌, ◌<◌, ◌+◌, ◌⊎◌, length, All, List, Bool, IsTrue, MatchOption, replicate, reverse, slice_get, slice_set, true, false, Some};
 ghost use Rattle.std.specs.Bool.{OnTrue};
 ghost use Rattle.std.specs.Option.{IfSome};
 ghost use Rattle.sc_solver.specs.Assignment.{literal_value, value_at};
-ghost use Rattle.sc_solver.specs.LearnerView.{IsExplained, IsThin, IsThinnedAt, clause_by};
+ghost use Rattle.std.specs.List.{Contains};
+ghost use Rattle.sc_solver.specs.Learned.{learned_list};
+ghost use Rattle.sc_solver.specs.LearnerView.{IsExplained, IsMinimal, IsMinimizedAt, clause_by};
 ghost use Rattle.sc_solver.specs.Marks.{ForcesMarked, HasMarks, IsAsStrong, IsBacked, IsBackedMarked, IsMarkedBy, IsShownBy, collected};
-ghost use Rattle.sc_solver.specs.Preferences.{aged, raised_all};
+ghost use Rattle.sc_solver.specs.Preferences.{decayed, bumped_all};
 ghost use Rattle.sc_solver.specs.Root.{AreImplied, oldest};
 ghost use Rattle.sc_solver.specs.ContextView.{Lawful};
 ghost use Rattle.sc_solver.specs.Trail.{value_in, IsTrail};
@@ -16,9 +18,25 @@ use crate::reason::Reason;
 use sc_procedure::Theory;
 
 impl<T: Theory> Learner<T> {
+    /// Marks why a literal follows, or where there is none why the trail is refuted, and notes that the
+    /// clause of the reason has part in a conflict.
+    pub fn explain(&mut self, reason: Reason, literal: Option<PLit>)
+        requires { IsBacked (Lawful T.models T.meets self.old.state) self.old.state.entries literal }
+        ensures kept { self.new ≡ record self.old { marks = self.new.marks } }
+        ensures more { HasMarks self.new.marks self.old.marks }
+        ensures marked { IsBackedMarked (Lawful T.models T.meets self.old.state) self.new.marks
+            self.old.state.entries literal }
+        ensures sparing { IfSome (clause_by self.old reason) (λ clause.
+            IsShownBy self.old.state.entries literal clause
+            → IsMarkedBy self.old.state.entries literal clause self.old.marks self.new.marks true) }
+    {
+        self.bump(reason);
+        self.mark_why(reason, literal);
+    }
+
     /// Marks why a literal follows, or where there is none why the trail is refuted: by the clause
     /// of the reason where it shows that, else all that is set.
-    pub fn explain(&mut self, reason: Reason, literal: Option<PLit>)
+    fn mark_why(&mut self, reason: Reason, literal: Option<PLit>)
         requires { IsBacked (Lawful T.models T.meets self.old.state) self.old.state.entries literal }
         ensures kept { self.new ≡ record self.old { marks = self.new.marks } }
         ensures more { HasMarks self.new.marks self.old.marks }
@@ -60,30 +78,56 @@ impl<T: Theory> Learner<T> {
     }
 
     /// Takes marks away from literals that follow from the marked ones that are left.
-    pub fn thin(&mut self)
+    pub fn minimize(&mut self)
         ensures kept { self.new ≡ record self.old { marks = self.new.marks } }
         ensures fewer { HasMarks self.old.marks self.new.marks }
         ensures strong { IsAsStrong (Lawful T.models T.meets self.old.state) self.old.state.entries
             self.new.marks self.old.marks }
-        ensures thin { IsThin self.old self.new.marks self.old.state.entries }
+        ensures minimal { IsMinimal self.old self.new.marks self.old.state.entries }
+    {
+        self.minimize_from_latest();
+        self.minimize_from_oldest();
+    }
+
+    /// Does so from the latest literal on, so that each is seen beside all that it may follow from.
+    fn minimize_from_latest(&mut self)
+        ensures kept { self.new ≡ record self.old { marks = self.new.marks } }
+        ensures fewer { HasMarks self.old.marks self.new.marks }
+        ensures strong { IsAsStrong (Lawful T.models T.meets self.old.state) self.old.state.entries
+            self.new.marks self.old.marks }
+    {
+        let count = self.state.len();
+        for passed in 0..count {
+            self.minimize_at(count - 1 - passed, false);
+        }
+    }
+
+    /// Does so from the oldest literal on, and takes the marks of all literals that no decision came
+    /// before.
+    fn minimize_from_oldest(&mut self)
+        ensures kept { self.new ≡ record self.old { marks = self.new.marks } }
+        ensures fewer { HasMarks self.old.marks self.new.marks }
+        ensures strong { IsAsStrong (Lawful T.models T.meets self.old.state) self.old.state.entries
+            self.new.marks self.old.marks }
+        ensures minimal { IsMinimal self.old self.new.marks self.old.state.entries }
     {
         let mut root = true;
         for place in 0..self.state.len() {
-            root = self.thin_at(place, root);
+            root = self.minimize_at(place, root);
         }
     }
 
     /// Takes the mark of the literal at a place of the trail away, counted from the oldest on, where
     /// it follows from the marked ones that are left. `root` says that nothing before it was
     /// decided, and the result that nothing up to it was.
-    fn thin_at(&mut self, place: usize, root: bool) -> bool
+    fn minimize_at(&mut self, place: usize, root: bool) -> bool
         requires within { place < length self.old.state.entries }
         requires root { OnTrue root (AreImplied (oldest place self.old.state.entries)) }
         ensures kept { self.new ≡ record self.old { marks = self.new.marks } }
         ensures strong { IsAsStrong (Lawful T.models T.meets self.old.state) self.old.state.entries
             self.new.marks self.old.marks }
-        ensures thinned { IfSome (slice_get (reverse self.old.state.entries) place)
-            (λ entry. IsThinnedAt self.old self.new.marks root entry result) }
+        ensures minimized { IfSome (slice_get (reverse self.old.state.entries) place)
+            (λ entry. IsMinimizedAt self.old self.new.marks root entry result) }
         ensures root { OnTrue result (AreImplied (oldest (place + 1) self.old.state.entries)) }
     {
         let entry = self.state.entry(place);
@@ -127,6 +171,28 @@ impl<T: Theory> Learner<T> {
         }
     }
 
+    /// Notes that the clause of a reason has part in a conflict.
+    fn bump(&mut self, reason: Reason)
+        ensures { self.new ≡ self.old }
+    {
+        if let Reason::Learned(slot) = reason {
+            self.learned.bump(slot);
+        }
+    }
+
+    /// Forgets about half of the clauses that were learned, where there are more than are to be kept
+    /// while so many variables are set. The others get other slots, and are watched by them.
+    pub fn reduce(&mut self, set: usize)
+        ensures kept { self.new ≡ record self.old { learned = self.new.learned } }
+        ensures fewer { All (Contains (learned_list self.old.learned)) (learned_list self.new.learned) }
+    {
+        if self.learned.is_crowded(set) {
+            self.learned.reduce();
+            self.watches
+                .watch_learned(self.state.trail(), &self.learned);
+        }
+    }
+
     /// Learns that a literal follows from the marked ones, and takes all marks away.
     pub fn learn(&mut self, literal: PLit) -> Reason
         requires within { literal.var < self.old.state.vars }
@@ -137,7 +203,7 @@ impl<T: Theory> Learner<T> {
             self.new ≡ record self.old {
               marks = replicate (length self.old.marks) false;
               learned = self.new.learned;
-              preferences = aged (raised_all self.old.preferences clause);
+              preferences = decayed (bumped_all self.old.preferences clause);
             } }
         ensures reason { let clause = collected literal self.old.marks self.old.state.entries in
             clause_by self.new result ≡ Some clause }
@@ -145,8 +211,8 @@ impl<T: Theory> Learner<T> {
         self.state
             .collect(literal, self.marks.as_slice(), &mut self.draft);
         self.marks.fill(false);
-        self.preferences.raise_all(self.draft.items());
-        self.preferences.age();
+        self.preferences.bump_all(self.draft.items());
+        self.preferences.decay();
         let slot = self.learned.push(self.draft.items());
         self.watches.attach(slot, self.draft.items());
         Reason::Learned(slot)

@@ -1,4 +1,4 @@
-use Rattle.std.proofs.Common.{◌≡◌, false, get_or, length, take, rules, arith}
+use Rattle.std.proofs.Common.{◌≡◌, false, get_or, take, rules, arith}
 use Rattle.std.proofs.lemmas.Bool.{OnFalse_at}
 use Rattle.std.proofs.lemmas.List.{take_all}
 use Rattle.sc_solver.specs.declared.literal.PLit.{PLit}

@@ -1,8 +1,7 @@
-use Rattle.std.specs.List.{All}
 use Rattle.std.proofs.lemmas.List.Elements.{All-contains}
 use Rattle.sc_solver.specs.Clauses.{IsWithin}
 use Rattle.sc_solver.specs.Learned.{learned_list}
-use Rattle.sc_solver.proofs.Generations.{clause_of-there}
+use Rattle.sc_solver.proofs.LearnedClauses.{clause_of-there}
 use Rattle.sc_solver.proofs.watches.look_at.Goals as goal
 
 pub look_into-requires-in-Some-clause-clause-within : goal.look_into-requires-in-Some-clause-clause-within

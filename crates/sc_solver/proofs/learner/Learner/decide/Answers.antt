@@ -1,4 +1,4 @@
-use Rattle.std.proofs.Common.{true, length, ap, arith}
+use Rattle.std.proofs.Common.{true, length, arith}
 use Rattle.sc_solver.specs.declared.trail.Entry.{Entry}
 use Rattle.sc_solver.specs.Assignment.{negated}
 use Rattle.sc_solver.proofs.Problems.{ForcesMarked-after}

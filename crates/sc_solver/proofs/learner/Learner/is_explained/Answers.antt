@@ -13,7 +13,7 @@ use Rattle.sc_solver.specs.Learned.{clause_of, learned_list}
 use Rattle.sc_solver.specs.LearnerView.{LearnerView, clause_by}
 use Rattle.sc_solver.specs.Marks.{ForcesMarked, IsEntailed, IsMarkedBut}
 use Rattle.sc_solver.specs.ContextView.{Lawful}
-use Rattle.sc_solver.proofs.Generations.{clause_of-there}
+use Rattle.sc_solver.proofs.LearnedClauses.{clause_of-there}
 use Rattle.sc_solver.proofs.MarkedTrails.{IsBackedMarked-clause}
 use Rattle.sc_solver.proofs.learner.Learner.is_explained.Goals as goal
 

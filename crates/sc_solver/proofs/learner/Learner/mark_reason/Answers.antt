@@ -9,7 +9,7 @@ use Rattle.sc_solver.specs.LearnerView.{LearnerView}
 use Rattle.sc_solver.specs.Marks.{IsBackedMarked, IsEntailed, IsMarkedBy}
 use Rattle.sc_solver.specs.ContextView.{Lawful}
 use Rattle.sc_solver.proofs.Entailment.{OnTrue-weaker}
-use Rattle.sc_solver.proofs.Generations.{clause_of-there}
+use Rattle.sc_solver.proofs.LearnedClauses.{clause_of-there}
 use Rattle.sc_solver.proofs.MarkedTrails.{IsBackedMarked-clause}
 use Rattle.sc_solver.proofs.learner.Learner.mark_reason.Goals as goal
 

@@ -38,7 +38,7 @@ returns-then-pop_free_level-clause-cases g c =
 
 pub returns-then-entry-clause-kept : goal.returns-then-entry-clause-kept
 returns-then-entry-clause-kept g c =
-    ap (λ (v : LearnerView _ _). record v { state = c.pop.new.self; marks = c.self.inside.marks.items; preferences = c.raise.new.self }) (c.self.view_is ∙ c.loop-entry.invariant.kept)
+    ap (λ (v : LearnerView _ _). record v { state = c.pop.new.self; marks = c.self.inside.marks.items; preferences = c.bump.new.self }) (c.self.view_is ∙ c.loop-entry.invariant.kept)
 
 pub returns-then-pop_free_level-clause-kept : goal.returns-then-pop_free_level-clause-kept
 returns-then-pop_free_level-clause-kept g c =

@@ -1,5 +1,4 @@
 use Rattle.std.proofs.Common.{subst}
-use Rattle.std.specs.List.{All}
 use Rattle.sc_solver.specs.ContextView.{Lawful}
 use Rattle.sc_solver.specs.LearnerView.{LearnerView}
 use Rattle.sc_solver.specs.Scanned.{IsMetIn}

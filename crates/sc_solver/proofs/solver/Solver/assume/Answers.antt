@@ -3,7 +3,7 @@ use Rattle.std.proofs.lemmas.Bool.{OnTrue_at}
 use Rattle.sc_solver.specs.declared.trail.Entry.{Entry}
 use Rattle.sc_solver.specs.SolverInside.{values_by}
 use Rattle.sc_solver.specs.SolverView.{SolverView}
-use Rattle.sc_solver.specs.Trail.{assignment_of, value_in}
+use Rattle.sc_solver.specs.Trail.{assignment_of}
 use Rattle.sc_solver.specs.Values.{set_value}
 use Rattle.sc_solver.proofs.ValuesSet.{one_set, value_read, values_where, values_else}
 use Rattle.sc_solver.proofs.solver.Solver.assume.Goals as goal

@@ -1,4 +1,4 @@
-use Rattle.std.proofs.Common.{◌<◌, length, ap, sym, subst, ◌∙◌, arith}
+use Rattle.std.proofs.Common.{◌<◌, length, ap, subst, ◌∙◌, arith}
 use Rattle.std.proofs.lemmas.Bool.{OnTrue_at}
 use Rattle.std.proofs.lemmas.Option.{slice_get_within}
 use Rattle.sc_solver.specs.LearnerView.{LearnerView}

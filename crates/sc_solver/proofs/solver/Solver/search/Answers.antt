@@ -1,4 +1,4 @@
-use Rattle.std.proofs.Common.{◌≡◌, sym, ◌∙◌}
+use Rattle.std.proofs.Common.{sym, ◌∙◌}
 use Rattle.sc_solver.proofs.Entailment.{OnTrue-weaker}
 use Rattle.sc_solver.proofs.ValuesSet.{none_set, values_found}
 use Rattle.sc_solver.proofs.solver.Solver.search.Goals as goal

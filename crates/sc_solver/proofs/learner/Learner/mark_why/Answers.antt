@@ -2,7 +2,7 @@ use Rattle.std.proofs.Common.{true, ap, replicate, ◌∙◌}
 use Rattle.sc_solver.specs.LearnerView.{LearnerView}
 use Rattle.sc_solver.specs.ContextView.{Lawful}
 use Rattle.sc_solver.proofs.MarkedTrails.{IsBackedMarked-all}
-use Rattle.sc_solver.proofs.learner.Learner.explain.Goals as goal
+use Rattle.sc_solver.proofs.learner.Learner.mark_why.Goals as goal
 
 pub returns-then-not-mark_reason-clause-marked : goal.returns-then-not-mark_reason-clause-marked
 returns-then-not-mark_reason-clause-marked g c =

@@ -1,13 +1,13 @@
 use Rattle.std.proofs.Common.{◌≡◌, false, reverse, set, Some, ap, sym, subst}
 use Rattle.std.specs.List.{slice_get}
 use Rattle.std.specs.Option.{IfSome}
-use Rattle.sc_solver.specs.LearnerView.{LearnerView, IsThinnedAt}
+use Rattle.sc_solver.specs.LearnerView.{LearnerView, IsMinimizedAt}
 use Rattle.sc_solver.specs.Marks.{IsAsStrong}
 use Rattle.sc_solver.specs.ContextView.{Lawful}
 use Rattle.sc_solver.specs.Trail.{value_in}
 use Rattle.sc_solver.proofs.Roots.{IsAsStrong-without}
-use Rattle.sc_solver.proofs.Thinning.{thinned_explained}
-use Rattle.sc_solver.proofs.learner.Learner.thin_at.Goals as goal
+use Rattle.sc_solver.proofs.Minimizing.{minimized_explained}
+use Rattle.sc_solver.proofs.learner.Learner.minimize_at.Goals as goal
 
 pub returns-then-is_explained-clause-strong : goal.returns-then-is_explained-clause-strong
 returns-then-is_explained-clause-strong g c =
@@ -19,11 +19,11 @@ returns-then-is_explained-clause-strong g c =
     subst (λ ms. IsAsStrong (Lawful T.models T.meets now.state) now.state.entries (set ms l.var false) now.marks) (sym marks)
     (IsAsStrong-without (Lawful T.models T.meets now.state) now.state.entries now.marks l value_is c.if-is_explained.ensures.forced)
 
-pub returns-then-is_explained-clause-thinned : goal.returns-then-is_explained-clause-thinned
-returns-then-is_explained-clause-thinned g c =
+pub returns-then-is_explained-clause-minimized : goal.returns-then-is_explained-clause-minimized
+returns-then-is_explained-clause-minimized g c =
     let now = c.args.self.now in
     let e = c.entry-entry.result in
     let root = c.args.root in
     let place_is = subst (λ (v : LearnerView _ _). slice_get (reverse v.state.entries) c.args.place ≡ Some e) c.self.view_is c.entry-entry.ensures.place in
-    subst (λ o. IfSome o (λ entry. IsThinnedAt now (set c.self.inside.marks.items e.literal.var false) root entry root)) (sym place_is)
-    (thinned_explained now _ root e c.if-entry.false (ap (λ (v : LearnerView _ _). set v.marks e.literal.var false) c.self.view_is))
+    subst (λ o. IfSome o (λ entry. IsMinimizedAt now (set c.self.inside.marks.items e.literal.var false) root entry root)) (sym place_is)
+    (minimized_explained now _ root e c.if-entry.false (ap (λ (v : LearnerView _ _). set v.marks e.literal.var false) c.self.view_is))

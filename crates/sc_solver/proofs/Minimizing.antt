@@ -10,7 +10,7 @@ use Rattle.sc_solver.specs.declared.literal.PLit.{PLit}
 use Rattle.sc_solver.specs.declared.reason.Reason.TheVariants.{Unknown}
 use Rattle.sc_solver.specs.declared.trail.Entry.{Entry}
 use Rattle.sc_solver.specs.Assignment.{value_at}
-use Rattle.sc_solver.specs.LearnerView.{LearnerView, IsExplained, IsThin, IsThinnedAt, clause_by}
+use Rattle.sc_solver.specs.LearnerView.{LearnerView, IsExplained, IsMinimal, IsMinimizedAt, clause_by}
 use Rattle.sc_solver.specs.Marks.{HasMarks, IsMarkedBut}
 use Rattle.sc_solver.proofs.SetMarks.{IsMarkedBut-kept, HasMarks-without, unmarked_after}
 
@@ -31,8 +31,8 @@ module _ {T L : Type 0} (s : LearnerView T L) where
       go (Some clause) k = IsMarkedBut-kept (set more l.var false) (set fewer l.var false) s.state.entries (Some l) clause (HasMarks-both more fewer l.var has) k
 
   -- the mark of a literal that follows is taken away
-  pub thinned_explained : (marks : List Bool) (root : Bool) (e : Entry) → e.decided ≡ false → marks ≡ set s.marks e.literal.var false → IsThinnedAt s marks root e root
-  thinned_explained marks root e implied is =
+  pub minimized_explained : (marks : List Bool) (root : Bool) (e : Entry) → e.decided ≡ false → marks ≡ set s.marks e.literal.var false → IsMinimizedAt s marks root e root
+  minimized_explained marks root e implied is =
       let gone : value_at marks e.literal.var ≡ false = ap (λ ms. value_at ms e.literal.var) is ∙ unmarked_after s.marks e.literal.var in
       record {
         next_root_is = (λ t. (t, implied), λ h. h.0);
@@ -40,12 +40,12 @@ module _ {T L : Type 0} (s : LearnerView T L) where
         others = λ v other. ap (λ ms. value_at ms v) is ∙ get_or-set_other s.marks e.literal.var v false false other;
         decided = OnTrue_from e.decided (marks ≡ s.marks) (λ d. absurd (both_ways e.decided implied d));
         implied = OnFalse_from e.decided (IsTrue root → value_at marks e.literal.var ≡ false) (λ _ _. gone);
-        thin = OnFalse_from e.decided (IsTrue (value_at marks e.literal.var) → ¬ IsExplained s marks e.literal) (λ _ m _. both_ways (value_at marks e.literal.var) gone m);
+        minimal = OnFalse_from e.decided (IsTrue (value_at marks e.literal.var) → ¬ IsExplained s marks e.literal) (λ _ m _. both_ways (value_at marks e.literal.var) gone m);
       }
 
   -- one more place
-  pub IsThin-more : (more fewer : List Bool) (xs : List Entry) (i : ℕ) (d : Entry) → i < length xs → HasMarks more fewer → IsThin s more (take i xs) → OnFalse (get_or xs i d).decided (IsTrue (value_at fewer (get_or xs i d).literal.var) → ¬ IsExplained s fewer (get_or xs i d).literal) → IsThin s fewer (take (i + 1) xs)
-  IsThin-more more fewer xs i d h has before here =
+  pub IsMinimal-more : (more fewer : List Bool) (xs : List Entry) (i : ℕ) (d : Entry) → i < length xs → HasMarks more fewer → IsMinimal s more (take i xs) → OnFalse (get_or xs i d).decided (IsTrue (value_at fewer (get_or xs i d).literal.var) → ¬ IsExplained s fewer (get_or xs i d).literal) → IsMinimal s fewer (take (i + 1) xs)
+  IsMinimal-more more fewer xs i d h has before here =
       All-more (λ (e : Entry). OnFalse e.decided (IsTrue (value_at fewer e.literal.var) → ¬ IsExplained s fewer e.literal)) xs i d h
       (All-weaker (λ (e : Entry). OnFalse e.decided (IsTrue (value_at more e.literal.var) → ¬ IsExplained s more e.literal)) (λ (e : Entry). OnFalse e.decided (IsTrue (value_at fewer e.literal.var) → ¬ IsExplained s fewer e.literal))
       (λ e k. OnFalse_from e.decided (IsTrue (value_at fewer e.literal.var) → ¬ IsExplained s fewer e.literal) (λ implied m explained. OnFalse_at implied k (has e.literal.var m) (IsExplained-more more fewer e.literal has explained)))
