@@ -1,0 +1,5 @@
+pub mod Items
+pub mod Judged
+pub mod Public
+pub mod Refused
+pub mod Turns

@@ -1,0 +1,21 @@
+//! Specifications as texts.
+//!
+//! [`parse_spec`] gives the tree that a text spells, or a [`SyntaxErr`]: why it spells none, and where. Each production is a function that equals the reader of its form in
+//! `specs/Reading.antt` of sc_forms; the laws of sc_causes say what that reader answers.
+//!
+//! - `syntax_err`: [`SyntaxErr`], and [`What`] there may be too many of.
+//! - `types`, `policies`, `models`: specifications and their parts.
+//! - `texts`: whole texts.
+//! - `laws`: what holds of any text.
+#![tactic(auto)]
+
+mod laws;
+mod models;
+mod policies;
+mod syntax_err;
+mod texts;
+mod types;
+
+pub use laws::{one_script_text, one_spec_text};
+pub use syntax_err::{SyntaxErr, What};
+pub use texts::parse_spec;

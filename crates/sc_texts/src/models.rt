@@ -1,0 +1,227 @@
+//! Fields, models and whole specifications.
+
+ghost use Rattle.std.specs.Prelude.{◌≡◌};
+ghost use Rattle.sc_tree.specs.Grammar as form;
+ghost use Rattle.sc_tree.specs.Grammar.{most_levels};
+ghost use Rattle.sc_tree.specs.Forms.{Sign, first};
+ghost use Rattle.sc_tree.specs.Texts.{first_of};
+ghost use Rattle.sc_forms.specs.Reading.{made, one, starts};
+ghost use Rattle.sc_syntax.specs.Reads.{Reads, reading};
+ghost use Rattle.sc_texts.specs.Turns.{Turns, passed};
+ghost use Rattle.sc_texts.specs.Items.{fields_from, models_from, statics_from};
+
+use crate::policies::right;
+use crate::types::ty;
+use sc_lexer::TokenKind;
+use sc_syntax::{Cursor, Stop};
+use sc_tree::{FieldDef, ModelDef, Named, Policy, Spec};
+use sqlite_items::Items;
+use std::alloc::Global;
+
+/// How many static principals there may be.
+const MOST_STATICS: usize = 64;
+
+/// How many models there may be.
+const MOST_MODELS: usize = 64;
+
+/// How many fields a model may have.
+const MOST_FIELDS: usize = 64;
+
+/// The rights on a field: to read it and to write it.
+#[tactic(auto, unfolding(sc_forms::specs::Reading::read, sc_tree::specs::Grammar::field_rights))]
+pub fn field_rights(alloc: Global, cursor: &mut Cursor<'_>) -> Result<(Policy, Policy), Stop>
+    ensures { Reads (reading most_levels form.field_rights cursor.old) result cursor.new }
+{
+    cursor.sign(TokenKind::BraceOpen)?;
+    let read = right(alloc, cursor, b"read")?;
+    cursor.sign(TokenKind::Comma)?;
+    let write = right(alloc, cursor, b"write")?;
+    cursor.sign(TokenKind::BraceClose)?;
+    Ok((read, write))
+}
+
+/// A field of a model.
+#[tactic(auto, unfolding(sc_forms::specs::Reading::read, sc_tree::specs::Grammar::field_form))]
+fn field(alloc: Global, cursor: &mut Cursor<'_>) -> Result<FieldDef, Stop>
+    ensures { Reads (reading most_levels form.field_form cursor.old) result cursor.new }
+{
+    let name = cursor.lower()?.named(alloc)?;
+    cursor.sign(TokenKind::Colon)?;
+    let ty = ty(alloc, cursor)?;
+    let (read, write) = field_rights(alloc, cursor)?;
+    Ok(FieldDef {
+        name,
+        ty,
+        read,
+        write,
+    })
+}
+
+/// Passes over a sign.
+#[tactic(auto, unfolding(sc_forms::specs::Reading::read))]
+fn pass(cursor: &mut Cursor<'_>, kind: TokenKind) -> Result<(), Stop>
+    ensures { Reads (passed (one (Sign kind) cursor.old)) result cursor.new }
+{
+    cursor.sign(kind)?;
+    Ok(())
+}
+
+/// The next field, with the comma before it, where so many may come; or the end of the model.
+fn next_field(alloc: Global, cursor: &mut Cursor<'_>, left: usize) -> Result<Option<FieldDef>, Stop>
+    ensures { Turns fields_from left cursor.old result cursor.new }
+{
+    if !cursor.sees(TokenKind::Comma) {
+        pass(cursor, TokenKind::BraceClose)?;
+        return Ok(None);
+    }
+    pass(cursor, TokenKind::Comma)?;
+    if !cursor.sees_lower() {
+        pass(cursor, TokenKind::BraceClose)?;
+        return Ok(None);
+    }
+    if left == 0 {
+        return Err(Stop::TooManyFields);
+    }
+    Ok(Some(field(alloc, cursor)?))
+}
+
+/// The fields of a model, of which so many may come, and the end of the model.
+fn fields_within(
+    alloc: Global,
+    cursor: &mut Cursor<'_>,
+    most: usize,
+) -> Result<Items<FieldDef>, Stop>
+    ensures { Reads (fields_from most cursor.old) result cursor.new }
+{
+    let mut fields = Items::new(alloc);
+    let mut left = most;
+    while let Some(field) = next_field(alloc, cursor, left)? {
+        fields.push(field)?;
+        left -= 1;
+    }
+    Ok(fields)
+}
+
+/// The fields of a model, and the end of the model.
+fn fields(alloc: Global, cursor: &mut Cursor<'_>) -> Result<Items<FieldDef>, Stop>
+    ensures { Reads (reading most_levels form.fields_form cursor.old) result cursor.new }
+{
+    fields_within(alloc, cursor, MOST_FIELDS)
+}
+
+/// Whether the records of a model are principals, and the offset of its first token.
+#[tactic(auto, unfolding(sc_forms::specs::Reading::read, sc_tree::specs::Grammar::model_head))]
+fn head(cursor: &mut Cursor<'_>) -> Result<(bool, u32), Stop>
+    ensures { Reads (made (λ v. (v.0, v.1.at)) (reading most_levels form.model_head cursor.old)) result cursor.new }
+{
+    if cursor.sees_word(TokenKind::Lower, b"principal") {
+        let word = cursor.word(TokenKind::Lower, b"principal")?;
+        cursor.word(TokenKind::Lower, b"model")?;
+        return Ok((true, word.at()));
+    }
+    let word = cursor.word(TokenKind::Lower, b"model")?;
+    Ok((false, word.at()))
+}
+
+/// A model.
+#[tactic(auto, unfolding(sc_forms::specs::Reading::read, sc_tree::specs::Grammar::model_form))]
+pub fn model(alloc: Global, cursor: &mut Cursor<'_>) -> Result<ModelDef, Stop>
+    ensures { Reads (reading most_levels form.model_form cursor.old) result cursor.new }
+{
+    let (principal, at) = head(cursor)?;
+    let name = cursor.upper()?.named(alloc)?;
+    cursor.sign(TokenKind::BraceOpen)?;
+    let create = right(alloc, cursor, b"create")?;
+    cursor.sign(TokenKind::Comma)?;
+    let delete = right(alloc, cursor, b"delete")?;
+    let fields = fields(alloc, cursor)?;
+    Ok(ModelDef {
+        principal,
+        name,
+        create,
+        delete,
+        fields,
+        at,
+    })
+}
+
+/// A static principal.
+#[tactic(auto, unfolding(sc_forms::specs::Reading::read, sc_tree::specs::Grammar::static_form))]
+fn static_name(alloc: Global, cursor: &mut Cursor<'_>) -> Result<Named, Stop>
+    ensures { Reads (reading most_levels form.static_form cursor.old) result cursor.new }
+{
+    cursor.word(TokenKind::Lower, b"static")?;
+    Ok(cursor.upper()?.named(alloc)?)
+}
+
+/// The next static principal, where so many may come; or none.
+fn next_static(alloc: Global, cursor: &mut Cursor<'_>, left: usize) -> Result<Option<Named>, Stop>
+    ensures { Turns statics_from left cursor.old result cursor.new }
+{
+    if !cursor.sees_word(TokenKind::Lower, b"static") {
+        return Ok(None);
+    }
+    if left == 0 {
+        return Err(Stop::TooManyStatics);
+    }
+    Ok(Some(static_name(alloc, cursor)?))
+}
+
+/// The static principals.
+fn statics(alloc: Global, cursor: &mut Cursor<'_>) -> Result<Items<Named>, Stop>
+    ensures { Reads (statics_from MOST_STATICS cursor.old) result cursor.new }
+{
+    let mut statics = Items::new(alloc);
+    let mut left = MOST_STATICS;
+    while let Some(name) = next_static(alloc, cursor, left)? {
+        statics.push(name)?;
+        left -= 1;
+    }
+    Ok(statics)
+}
+
+/// Whether a model begins with the next token.
+fn sees_model(cursor: &Cursor<'_>) -> bool
+    ensures { result ≡ starts (first first_of form.model_form) cursor.now }
+{
+    if cursor.sees_word(TokenKind::Lower, b"principal") {
+        return true;
+    }
+    cursor.sees_word(TokenKind::Lower, b"model")
+}
+
+/// The next model, where so many may come; or none.
+fn next_model(alloc: Global, cursor: &mut Cursor<'_>, left: usize) -> Result<Option<ModelDef>, Stop>
+    ensures { Turns models_from left cursor.old result cursor.new }
+{
+    if !sees_model(cursor) {
+        return Ok(None);
+    }
+    if left == 0 {
+        return Err(Stop::TooManyModels);
+    }
+    Ok(Some(model(alloc, cursor)?))
+}
+
+/// The models.
+fn models(alloc: Global, cursor: &mut Cursor<'_>) -> Result<Items<ModelDef>, Stop>
+    ensures { Reads (models_from MOST_MODELS cursor.old) result cursor.new }
+{
+    let mut models = Items::new(alloc);
+    let mut left = MOST_MODELS;
+    while let Some(model) = next_model(alloc, cursor, left)? {
+        models.push(model)?;
+        left -= 1;
+    }
+    Ok(models)
+}
+
+/// A specification.
+#[tactic(auto, unfolding(sc_forms::specs::Reading::read, sc_tree::specs::Grammar::spec_form, crate::specs::Items::statics_from, crate::specs::Items::models_from))]
+pub fn spec(alloc: Global, cursor: &mut Cursor<'_>) -> Result<Spec, Stop>
+    ensures { Reads (reading most_levels form.spec_form cursor.old) result cursor.new }
+{
+    let statics = statics(alloc, cursor)?;
+    let models = models(alloc, cursor)?;
+    Ok(Spec { statics, models })
+}

@@ -1,0 +1,105 @@
+//! Whole texts.
+
+ghost use Rattle.std.specs.Prelude.{[], IfErr, IfOk, length, ◌<◌, ◌^◌, ◌≡◌, ◌≢◌};
+ghost use Rattle.sc_ast.specs.Pieces.{pieces_of};
+ghost use Rattle.sc_tree.specs.Grammar as form;
+ghost use Rattle.sc_tree.specs.Texts.{IsSpecText};
+ghost use Rattle.sc_tree.specs.declared.models.Spec.{Spec};
+ghost use Rattle.sc_forms.specs.Answers.{answer};
+ghost use Rattle.sc_syntax.specs.Pieces.{AreTokensIn};
+ghost use Rattle.sc_syntax.specs.Reads.{Reads};
+ghost use Rattle.sc_texts.specs.Refused.{IsRefusedAs, offset};
+ghost use Rattle.sc_texts.specs.Judged.{Judges, IsPlaced, refusal_of};
+
+use crate::models::spec;
+use crate::syntax_err::{SyntaxErr, What};
+use sc_lexer::{Token, lex};
+use sc_syntax::{Cursor, Stop};
+use sc_tree::Spec;
+use std::alloc::Global;
+
+/// The offset of the next token.
+fn next_offset(cursor: &Cursor<'_>) -> u32
+    requires { cursor.now ≢ [] }
+    ensures { result ≡ offset cursor.now }
+{
+    match cursor.first() {
+        Some(piece) => piece.at(),
+        None => unreachable!(),
+    }
+}
+
+/// What is answered where a form was not read at this place of so many tokens.
+fn refusal(stop: Stop, cursor: &Cursor<'_>, count: usize) -> SyntaxErr
+    requires placed { IsPlaced stop count cursor.now }
+    requires few { count < 2 ^ 32 }
+    ensures { result ≡ refusal_of stop count cursor.now }
+{
+    match stop {
+        Stop::NotGrammar => SyntaxErr::NotGrammar {
+            token: (count - cursor.len()) as u32,
+        },
+        Stop::TooDeep => SyntaxErr::TooDeep {
+            at: next_offset(cursor),
+        },
+        Stop::TooManyTokens => SyntaxErr::TooManyTokens {
+            at: next_offset(cursor),
+        },
+        Stop::TooManyStatics => SyntaxErr::TooMany {
+            what: What::Statics,
+            at: next_offset(cursor),
+        },
+        Stop::TooManyModels => SyntaxErr::TooMany {
+            what: What::Models,
+            at: next_offset(cursor),
+        },
+        Stop::TooManyFields => SyntaxErr::TooMany {
+            what: What::Fields,
+            at: next_offset(cursor),
+        },
+        Stop::TooManyCommands => SyntaxErr::TooMany {
+            what: What::Commands,
+            at: next_offset(cursor),
+        },
+        Stop::OutOfMemory => SyntaxErr::OutOfMemory,
+    }
+}
+
+/// The specification that all tokens spell.
+#[tactic(auto, unfolding(sc_forms::specs::Answers::answer))]
+fn whole_spec(alloc: Global, cursor: &mut Cursor<'_>) -> Result<Spec, Stop>
+    ensures { Reads (answer form.spec_form cursor.old) result cursor.new }
+{
+    let spec = spec(alloc, cursor)?;
+    if !cursor.is_empty() {
+        return Err(Stop::NotGrammar);
+    }
+    Ok(spec)
+}
+
+/// The specification that the tokens of a text spell.
+fn spec_of(alloc: Global, text: &[u8], tokens: &[Token]) -> Result<Spec, SyntaxErr>
+    requires tokens { AreTokensIn text.now tokens.now }
+    requires few { length tokens.now < 2 ^ 32 }
+    ensures { Judges form.spec_form (pieces_of text.now tokens.now) (length tokens.now) result }
+{
+    let mut cursor = Cursor::new(text, tokens);
+    match whole_spec(alloc, &mut cursor) {
+        Ok(spec) => Ok(spec),
+        Err(stop) => Err(refusal(stop, &cursor, tokens.len())),
+    }
+}
+
+/// The specification that a text spells, or why it spells none, and where.
+pub fn parse_spec(alloc: Global, text: &[u8]) -> Result<Spec, SyntaxErr>
+    requires { length text.now < 2 ^ 32 }
+    ensures ok { IfOk result (λ found. IsSpecText text.now found) }
+    ensures only { IfOk result (λ found. (other : Spec) → IsSpecText text.now other → other ≡ found) }
+    ensures refused { IfErr result (λ err. err ≢ SyntaxErr.OutOfMemory →
+        IsRefusedAs form.spec_form text.now err) }
+    ensures none { IfErr result (λ err. err ≢ SyntaxErr.OutOfMemory →
+        (found : Spec) → ¬ (IsSpecText text.now found)) }
+{
+    let tokens = lex(alloc, text)?;
+    spec_of(alloc, text, tokens.as_slice())
+}
