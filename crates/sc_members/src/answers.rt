@@ -21,7 +21,8 @@ pub fn allows(
     who: Principal,
     id: u64,
 ) -> Result<bool, AllocError>
-    ensures { IfOk result (λ b. b ≡ meaning.allows database.now (view.policy_of policy.now) id who) }
+    ensures { IfOk result (λ b. b
+        ≡ meaning.allows database.now (view.policy_of policy.now) id who) }
 {
     match policy {
         TPolicy::Everyone => Ok(true),

@@ -1,6 +1,7 @@
 //! The value of an expression, and whether a principal is in a set.
 
-ghost use Rattle.std.specs.Prelude.{◌≡◌, ◌&&◌, ◌||◌, ◌++◌, ◌∷◌, [], filter, map, slice_index_or, IfOk, IfSome, IfNone, true, false};
+ghost use Rattle.std.specs.Prelude.{◌≡◌, ◌&&◌, ◌||◌, ◌++◌, ◌∷◌, [], filter, map, slice_index_or};
+ghost use Rattle.std.specs.Prelude.{IfOk, IfSome, IfNone, true, false};
 ghost use Rattle.std.specs.List.{list_any};
 ghost use Rattle.std.specs.Option.{option_map, option_copied};
 ghost use Rattle.sc_schema.specs.Trees.{Items, Filters};
@@ -32,7 +33,8 @@ fn literal<'d>(alloc: Global, text: &Txt) -> Result<Seen<'d>, AllocError>
 
 /// The value of the variable that so many stand outside of, or nothing where there is none.
 fn value_at<'d>(alloc: Global, depth: u32, env: &[Value]) -> Result<Seen<'d>, AllocError>
-    ensures { IfOk result (λ v. seen_data v ≡ slice_index_or (env_data env.now) depth stored.Nothing) }
+    ensures { IfOk result (λ v. seen_data v
+        ≡ slice_index_or (env_data env.now) depth stored.Nothing) }
 {
     match env.get(depth as usize) {
         Some(value) => Ok(Seen::Made(value.copy(alloc)?)),
@@ -42,7 +44,8 @@ fn value_at<'d>(alloc: Global, depth: u32, env: &[Value]) -> Result<Seen<'d>, Al
 
 /// The values of variables, and of one more inside them.
 fn extended(alloc: Global, env: &[Value], inner: &Value) -> Result<Vec<Value>, AllocError>
-    ensures { IfOk result (λ all. env_data all.items ≡ env_data env.now ++ value_data inner.now ∷ []) }
+    ensures { IfOk result (λ all. env_data all.items
+        ≡ env_data env.now ++ value_data inner.now ∷ []) }
 {
     let mut all = Vec::new(alloc);
     for value in env {
@@ -96,7 +99,8 @@ fn content(v: &Value) -> Option<&Value>
 
 /// The id of the principal, if it is a record of the model that is there.
 fn record_of(database: &Database, m: ModelNo, who: Principal) -> Option<u64>
-    ensures found { IfSome result (λ id. (meaning.is_among m (ids_of database.now m) who ≡ true) × (meaning.id_of_record who ≡ id)) }
+    ensures found { IfSome result (λ id. (meaning.is_among m (ids_of database.now m) who ≡ true) ×
+        (meaning.id_of_record who ≡ id)) }
     ensures none { IfNone result (meaning.is_among m (ids_of database.now m) who ≡ false) }
 {
     match who {
@@ -119,7 +123,8 @@ pub(crate) fn value<'d>(
     e: &TExpr,
     env: &[Value],
 ) -> Result<Seen<'d>, AllocError>
-    ensures { IfOk result (λ v. seen_data v ≡ meaning.value_of database.now (env_data env.now) (view.expr_of e.now)) }
+    ensures { IfOk result (λ v. seen_data v
+        ≡ meaning.value_of database.now (env_data env.now) (view.expr_of e.now)) }
 {
     match e {
         TExpr::Flag(b) => Ok(flag(*b)),
@@ -198,7 +203,9 @@ fn truth_at(
     e: &TExpr,
     env: &[Value],
 ) -> Result<bool, AllocError>
-    ensures { IfOk result (λ b. b ≡ meaning.truth_of (meaning.value_of database.now (env_data env.now) (view.expr_of e.now))) }
+    ensures { IfOk result (λ b. b
+        ≡ meaning.truth_of
+        (meaning.value_of database.now (env_data env.now) (view.expr_of e.now))) }
 {
     let v = value(alloc, database, e, env)?;
     Ok(truth(v.get()))
@@ -213,7 +220,8 @@ pub(crate) fn holds(
     env: &[Value],
     who: Principal,
 ) -> Result<bool, AllocError>
-    ensures { IfOk result (λ b. b ≡ meaning.member database.now (env_data env.now) (view.set_of set.now) who) }
+    ensures { IfOk result (λ b. b
+        ≡ meaning.member database.now (env_data env.now) (view.set_of set.now) who) }
 {
     match set {
         TSet::Everyone => Ok(true),
@@ -276,7 +284,9 @@ fn is_listed(
     env: &[Value],
     who: Principal,
 ) -> Result<bool, AllocError>
-    ensures { IfOk result (λ b. b ≡ meaning.is_listed database.now (env_data env.now) (view.items_of (map view.item_of items.now)) who) }
+    ensures { IfOk result (λ b. b
+        ≡ meaning.is_listed database.now (env_data env.now)
+        (view.items_of (map view.item_of items.now)) who) }
 {
     for item in items {
         if is_item(alloc, database, item, env, who)? {
@@ -295,7 +305,9 @@ fn is_item(
     env: &[Value],
     who: Principal,
 ) -> Result<bool, AllocError>
-    ensures { IfOk result (λ b. (rest : Items) → meaning.is_listed database.now (env_data env.now) (view.item_of item.now rest) who ≡ (b || meaning.is_listed database.now (env_data env.now) rest who)) }
+    ensures { IfOk result (λ b. (rest : Items) →
+        meaning.is_listed database.now (env_data env.now) (view.item_of item.now rest) who
+        ≡ (b || meaning.is_listed database.now (env_data env.now) rest who)) }
 {
     match item {
         TItem::Static(n) => Ok(is_static(*n, who)),
@@ -316,7 +328,9 @@ fn meets(
     m: ModelNo,
     id: u64,
 ) -> Result<bool, AllocError>
-    ensures { IfOk result (λ b. b ≡ meaning.meets database.now (env_data env.now) m (view.filters_of (map view.filter_of filters.now)) id) }
+    ensures { IfOk result (λ b. b
+        ≡ meaning.meets database.now (env_data env.now) m
+        (view.filters_of (map view.filter_of filters.now)) id) }
 {
     for filter in filters {
         if !meets_one(alloc, database, filter, env, m, id)? {
@@ -336,7 +350,9 @@ fn meets_one(
     m: ModelNo,
     id: u64,
 ) -> Result<bool, AllocError>
-    ensures { IfOk result (λ b. (rest : Filters) → meaning.meets database.now (env_data env.now) m (view.filter_of filter.now rest) id ≡ (b && meaning.meets database.now (env_data env.now) m rest id)) }
+    ensures { IfOk result (λ b. (rest : Filters) →
+        meaning.meets database.now (env_data env.now) m (view.filter_of filter.now rest) id
+        ≡ (b && meaning.meets database.now (env_data env.now) m rest id)) }
 {
     let TFilter::Test(f, op, e) = filter;
     let v = value(alloc, database, e, env)?;
@@ -353,7 +369,9 @@ pub(crate) fn ids_within(
     env: &[Value],
     m: ModelNo,
 ) -> Result<Vec<u64>, AllocError>
-    ensures { IfOk result (λ found. found.items ≡ filter (λ y. meaning.member database.now (env_data env.now) (view.set_of set.now) (Rec m y)) (ids_of database.now m)) }
+    ensures { IfOk result (λ found. found.items
+        ≡ filter (λ y. meaning.member database.now (env_data env.now) (view.set_of set.now)
+        (Rec m y)) (ids_of database.now m)) }
 {
     let mut found = Vec::new(alloc);
     for record in database.records(m) {
@@ -373,7 +391,9 @@ fn value_with<'d>(
     env: &[Value],
     id: u64,
 ) -> Result<Seen<'d>, AllocError>
-    ensures { IfOk result (λ v. seen_data v ≡ meaning.value_of database.now (env_data env.now ++ stored.Id id ∷ []) (view.expr_of e.now)) }
+    ensures { IfOk result (λ v. seen_data v
+        ≡ meaning.value_of database.now (env_data env.now
+        ++ stored.Id id ∷ []) (view.expr_of e.now)) }
 {
     let env = extended(alloc, env, &Value::Id(id))?;
     value(alloc, database, e, env.as_slice())
@@ -389,7 +409,9 @@ fn holds_with(
     id: u64,
     who: Principal,
 ) -> Result<bool, AllocError>
-    ensures { IfOk result (λ b. b ≡ meaning.member database.now (env_data env.now ++ stored.Id id ∷ []) (view.set_of set.now) who) }
+    ensures { IfOk result (λ b. b
+        ≡ meaning.member database.now (env_data env.now
+        ++ stored.Id id ∷ []) (view.set_of set.now) who) }
 {
     let env = extended(alloc, env, &Value::Id(id))?;
     holds(alloc, database, set, env.as_slice(), who)
@@ -406,7 +428,9 @@ fn maps_to(
     m: ModelNo,
     who: Principal,
 ) -> Result<bool, AllocError>
-    ensures { IfOk result (λ b. b ≡ list_any (λ y. meaning.is_record m (meaning.value_of database.now (env_data env.now ++ stored.Id y ∷ []) (view.expr_of e.now)) who) ids.now) }
+    ensures { IfOk result (λ b. b
+        ≡ list_any (λ y. meaning.is_record m (meaning.value_of database.now (env_data env.now
+        ++ stored.Id y ∷ []) (view.expr_of e.now)) who) ids.now) }
 {
     for id in ids {
         let v = value_with(alloc, database, e, env, *id)?;
@@ -427,7 +451,9 @@ fn holds_at(
     ids: &[u64],
     who: Principal,
 ) -> Result<bool, AllocError>
-    ensures { IfOk result (λ b. b ≡ list_any (λ y. meaning.member database.now (env_data env.now ++ stored.Id y ∷ []) (view.set_of set.now) who) ids.now) }
+    ensures { IfOk result (λ b. b
+        ≡ list_any (λ y. meaning.member database.now (env_data env.now
+        ++ stored.Id y ∷ []) (view.set_of set.now) who) ids.now) }
 {
     for id in ids {
         if holds_with(alloc, database, set, env, *id, who)? {

@@ -1,11 +1,14 @@
 //! Databases.
 
-ghost use Rattle.std.specs.Prelude.{◌≡◌, ◌==◌, ◌-◌, ◌<◌, length, map, option_copied, position, IfErr, IfOk, OnErr, OnOk};
+ghost use Rattle.std.specs.Prelude.{◌≡◌, ◌==◌, ◌-◌, ◌<◌, length, map, option_copied, position};
+ghost use Rattle.std.specs.Prelude.{IfErr, IfOk, OnErr, OnOk};
 ghost use Rattle.std.specs.List.{find};
 ghost use Rattle.std.specs.Option.{option_map};
 ghost use Rattle.sc_data.specs.Database.{records_of, slots_of, has_record};
-ghost use Rattle.sc_records.specs.Inserted.{Inserts, IsAdmitted, IsRefused, change_table, empty_of, empty_table, next_of, with_record};
-ghost use Rattle.sc_records.specs.Room.{HasRoom, most_records, most_weight, record_count, record_weight, row_weight, total_weight};
+ghost use Rattle.sc_records.specs.Inserted.{Inserts, IsAdmitted, IsRefused, change_table, empty_of};
+ghost use Rattle.sc_records.specs.Inserted.{empty_table, next_of, with_record};
+ghost use Rattle.sc_records.specs.Room.{HasRoom, most_records, most_weight, record_count};
+ghost use Rattle.sc_records.specs.Room.{record_weight, row_weight, total_weight};
 ghost use Rattle.sc_records.specs.Views.{record_data, table_data, value_data};
 ghost use Rattle.sc_schema.specs.SchemaViews.{model_info_of, schema_of};
 
@@ -75,7 +78,8 @@ impl Database {
 
     /// The record of the model with the id, or None where there is none.
     pub fn get(&self, m: ModelNo, id: u64) -> Option<&Record>
-        ensures { option_map record_data (option_copied result) ≡ find (λ r. r.id == id) (records_of self.now m) }
+        ensures { option_map record_data (option_copied result)
+            ≡ find (λ r. r.id == id) (records_of self.now m) }
     {
         match table_in(self.tables.as_slice(), m) {
             Some(table) => record_in(table.records.as_slice(), id),
@@ -85,7 +89,9 @@ impl Database {
 
     /// The value of the field of the record, or None where there is no such record or field.
     pub fn value(&self, m: ModelNo, id: u64, f: FieldNo) -> Option<&Value>
-        ensures { option_map value_data (option_copied result) ≡ option_map (λ slot. slot.value) (find (λ slot. slot.field == f) (slots_of self.now m id)) }
+        ensures { option_map value_data (option_copied result)
+            ≡ option_map (λ slot. slot.value)
+            (find (λ slot. slot.field == f) (slots_of self.now m id)) }
     {
         match self.get(m, id) {
             Some(record) => record.value(f),
@@ -103,7 +109,8 @@ impl Database {
 
 /// A table without records for each model.
 fn empty_tables(alloc: Global, models: &[ModelInfo]) -> Result<Vec<Table>, AllocError>
-    ensures { IfOk result (λ tables. map table_data tables.items ≡ map empty_table (map model_info_of models.now)) }
+    ensures { IfOk result (λ tables. map table_data tables.items
+        ≡ map empty_table (map model_info_of models.now)) }
 {
     let mut tables = Vec::new(alloc);
     for info in models {
@@ -151,9 +158,11 @@ impl Database {
     /// The weight of the row, or why it is refused.
     fn admit(&self, info: &ModelInfo, row: &[Value]) -> Result<u64, DataErr>
         requires { length info.now.fields ≡ length row.now }
-        ensures admitted { OnOk result (IsAdmitted (model_info_of info.now) self.now (map value_data row.now)) }
+        ensures admitted { OnOk result
+            (IsAdmitted (model_info_of info.now) self.now (map value_data row.now)) }
         ensures weight { IfOk result (λ weight. weight ≡ row_weight (map value_data row.now)) }
-        ensures refused { IfErr result (IsRefused (model_info_of info.now) self.now (map value_data row.now)) }
+        ensures refused { IfErr result
+            (IsRefused (model_info_of info.now) self.now (map value_data row.now)) }
     {
         let fields = info.fields.as_slice();
         let next = self.next(info.number);
@@ -191,7 +200,8 @@ impl Database {
         requires weight { weight ≡ record_weight (record_data made) }
         requires fewer { record_count self.old < most_records }
         requires room { HasRoom self.old weight }
-        ensures ok { OnOk result (self.new ≡ change_table m (with_record (record_data made)) self.old) }
+        ensures ok { OnOk result (self.new
+            ≡ change_table m (with_record (record_data made)) self.old) }
         ensures err { OnErr result (self.new ≡ self.old) }
     {
         let place = match place_of(self.tables.as_slice(), m) {
@@ -224,7 +234,8 @@ impl Database {
     /// database is then as it was, and so it is where memory is wanting.
     pub fn insert(&mut self, alloc: Global, info: &ModelInfo, row: &[Value]) -> Result<u64, DataErr>
         requires { length info.now.fields ≡ length row.now }
-        ensures { Inserts (model_info_of info.now) self.old (map value_data row.now) result self.new }
+        ensures { Inserts (model_info_of info.now) self.old
+            (map value_data row.now) result self.new }
     {
         let weight = self.admit(info, row)?;
         let id = self.next(info.number);

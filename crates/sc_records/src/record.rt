@@ -33,7 +33,9 @@ fn slot_in(slots: &[Slot], f: FieldNo) -> Option<&Slot>
 impl Record {
     /// The value of the field, or None where the record has no such field.
     pub fn value(&self, f: FieldNo) -> Option<&Value>
-        ensures { option_map value_data (option_copied result) ≡ option_map (λ slot. slot.value) (find (λ slot. slot.field == f) (map slot_data self.now.slots)) }
+        ensures { option_map value_data (option_copied result)
+            ≡ option_map (λ slot. slot.value)
+            (find (λ slot. slot.field == f) (map slot_data self.now.slots)) }
     {
         match slot_in(self.slots.as_slice(), f) {
             Some(slot) => Some(&slot.value),

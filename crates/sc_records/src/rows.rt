@@ -3,7 +3,8 @@
 ghost use Rattle.std.specs.Prelude.{◌≡◌, ◌++◌, length, map, OnOk, IfSome, IfNone};
 ghost use Rattle.sc_schema.specs.SchemaViews.{field_info_of};
 ghost use Rattle.sc_records.specs.Inserted.{is_there_or};
-ghost use Rattle.sc_records.specs.Rows.{AreAllThere, AreShaped, IsFirstDangling, IsFirstWrong, slots_from};
+ghost use Rattle.sc_records.specs.Rows.{AreAllThere, AreShaped, IsFirstDangling, IsFirstWrong};
+ghost use Rattle.sc_records.specs.Rows.{slots_from};
 ghost use Rattle.sc_records.specs.Views.{slot_data, value_data};
 
 use crate::database::Database;
@@ -16,8 +17,10 @@ use std::alloc::{AllocError, Global};
 /// The first field whose value has not the shape of its type.
 pub(crate) fn first_wrong(fields: &[FieldInfo], row: &[Value]) -> Option<FieldNo>
     requires { length fields.now ≡ length row.now }
-    ensures wrong { IfSome result (IsFirstWrong (map field_info_of fields.now) (map value_data row.now)) }
-    ensures none { IfNone result (AreShaped (map field_info_of fields.now) (map value_data row.now)) }
+    ensures wrong { IfSome result
+        (IsFirstWrong (map field_info_of fields.now) (map value_data row.now)) }
+    ensures none { IfNone result
+        (AreShaped (map field_info_of fields.now) (map value_data row.now)) }
 {
     let (Some((field, fields)), Some((value, row))) = (fields.split_first(), row.split_first())
     else {
@@ -37,8 +40,12 @@ pub(crate) fn first_dangling(
     row: &[Value],
 ) -> Option<(FieldNo, u64)>
     requires { length fields.now ≡ length row.now }
-    ensures dangling { IfSome result (λ place. IsFirstDangling (is_there_or database.now coming.model coming.id) (map field_info_of fields.now) (map value_data row.now) place.0 place.1) }
-    ensures none { IfNone result (AreAllThere (is_there_or database.now coming.model coming.id) (map field_info_of fields.now) (map value_data row.now)) }
+    ensures dangling { IfSome result
+        (λ place. IsFirstDangling (is_there_or database.now coming.model coming.id)
+        (map field_info_of fields.now) (map value_data row.now) place.0 place.1) }
+    ensures none { IfNone result
+        (AreAllThere (is_there_or database.now coming.model coming.id)
+        (map field_info_of fields.now) (map value_data row.now)) }
 {
     let (Some((field, fields)), Some((value, row))) = (fields.split_first(), row.split_first())
     else {
@@ -58,7 +65,9 @@ pub(crate) fn push_slots(
     row: &[Value],
 ) -> Result<(), AllocError>
     requires { length fields.now ≡ length row.now }
-    ensures { OnOk result (map slot_data slots.new.items ≡ map slot_data slots.old.items ++ slots_from (map field_info_of fields.now) (map value_data row.now)) }
+    ensures { OnOk result (map slot_data slots.new.items
+        ≡ map slot_data slots.old.items
+        ++ slots_from (map field_info_of fields.now) (map value_data row.now)) }
 {
     let (Some((field, fields)), Some((value, row))) = (fields.split_first(), row.split_first())
     else {

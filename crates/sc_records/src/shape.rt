@@ -7,7 +7,8 @@ ghost use Rattle.sc_ast.specs.Words.{IsText};
 ghost use Rattle.sc_data.specs.Values as plain;
 ghost use Rattle.sc_schema.specs.declared.types.TBase.TheVariants as base;
 ghost use Rattle.sc_records.specs.Inserted.{is_there_or};
-ghost use Rattle.sc_records.specs.Shape.{IsBaseShape, IsShape, base_model, dangling_in, model_named};
+ghost use Rattle.sc_records.specs.Shape.{IsBaseShape, IsShape, base_model, dangling_in};
+ghost use Rattle.sc_records.specs.Shape.{model_named};
 ghost use Rattle.sc_records.specs.Views.{value_data};
 
 use crate::database::Database;
@@ -30,7 +31,8 @@ fn is_rising(ids: &[u64]) -> bool
 
 /// The bytes of a text.
 fn text_in(v: &Value) -> Option<&[u8]>
-    ensures text { IfSome result (λ bytes. (value_data v.now ≡ plain.Str bytes.now) × IsText bytes.now) }
+    ensures text { IfSome result (λ bytes. (value_data v.now ≡ plain.Str bytes.now) ×
+        IsText bytes.now) }
     ensures none { IfNone result ((bytes : List ℕ) → value_data v.now ≡ plain.Str bytes → ⊥) }
 {
     match v {
@@ -131,7 +133,8 @@ fn counts(database: &Database, coming: Coming, m: ModelNo, id: u64) -> bool
 
 /// The first of the ids of records of the model that names none.
 fn first_dangling(database: &Database, coming: Coming, m: ModelNo, ids: &[u64]) -> Option<u64>
-    ensures { result ≡ find (λ id. not (is_there_or database.now coming.model coming.id m id)) ids.now }
+    ensures { result
+        ≡ find (λ id. not (is_there_or database.now coming.model coming.id m id)) ids.now }
 {
     ids.iter()
         .copied()
@@ -140,7 +143,9 @@ fn first_dangling(database: &Database, coming: Coming, m: ModelNo, ids: &[u64]) 
 
 /// The first id in a value of ids of records of the model that names none.
 fn dangling_among(database: &Database, coming: Coming, m: ModelNo, v: &Value) -> Option<u64>
-    ensures { result ≡ find (λ id. not (is_there_or database.now coming.model coming.id m id)) (plain.ids_in (value_data v.now)) }
+    ensures { result
+        ≡ find (λ id. not (is_there_or database.now coming.model coming.id m id))
+        (plain.ids_in (value_data v.now)) }
 {
     match v {
         Value::Id(id) => {
@@ -158,7 +163,8 @@ fn dangling_among(database: &Database, coming: Coming, m: ModelNo, v: &Value) ->
 
 /// The first id in a value of the type that names no record.
 pub(crate) fn dangling_in(database: &Database, coming: Coming, t: TTy, v: &Value) -> Option<u64>
-    ensures { result ≡ dangling_in (is_there_or database.now coming.model coming.id) t (value_data v.now) }
+    ensures { result
+        ≡ dangling_in (is_there_or database.now coming.model coming.id) t (value_data v.now) }
 {
     match model_named(t) {
         Some(m) => dangling_among(database, coming, m, v),

@@ -33,7 +33,8 @@ impl Table {
     /// Puts a record at the end, and raises the next id.
     pub(crate) fn push(&mut self, made: Record) -> Result<(), AllocError>
         requires { self.old.next < 18446744073709551615 }
-        ensures ok { OnOk result (table_data self.new ≡ with_record (record_data made) (table_data self.old)) }
+        ensures ok { OnOk result (table_data self.new
+            ≡ with_record (record_data made) (table_data self.old)) }
         ensures err { OnErr result (table_data self.new ≡ table_data self.old) }
     {
         self.records.push(made)?;

@@ -19,7 +19,8 @@ fn without(left: u64, weight: u64) -> Option<u64>
 
 /// What is left of a number without the weight of a value, or None where the value weighs more.
 fn without_value(left: u64, v: &Value) -> Option<u64>
-    ensures { MatchOption result (left < weight_of (value_data v.now)) (λ rest. rest + weight_of (value_data v.now) ≡ left) }
+    ensures { MatchOption result (left < weight_of (value_data v.now)) (λ rest. rest
+        + weight_of (value_data v.now) ≡ left) }
 {
     match v {
         Value::Flag(_) | Value::Num(_) | Value::Id(_) | Value::Nothing => without(left, 1),
@@ -44,7 +45,8 @@ fn without_value(left: u64, v: &Value) -> Option<u64>
 
 /// What is left of a number without the weights of values, or None where they weigh more.
 pub(crate) fn without_row(left: u64, row: &[Value]) -> Option<u64>
-    ensures { MatchOption result (left < row_weight (map value_data row.now)) (λ rest. rest + row_weight (map value_data row.now) ≡ left) }
+    ensures { MatchOption result (left < row_weight (map value_data row.now)) (λ rest. rest
+        + row_weight (map value_data row.now) ≡ left) }
 {
     let Some((value, row)) = row.split_first() else {
         return Some(left);
