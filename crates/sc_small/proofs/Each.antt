@@ -10,7 +10,7 @@ abbrev last_of : {A : Type 0} → List A → A → List A
 last_of ys y = ys ++ y ∷ []
 
 regroup : {A : Type 0} (first : Option A) (more : Option (List A)) (last : Option A)
-  → with_both (λ y ys. y ∷ ys) first (with_both last_of more last) ≡ with_both last_of (with_both (λ y ys. y ∷ ys) first more) last
+    → with_both (λ y ys. y ∷ ys) first (with_both last_of more last) ≡ with_both last_of (with_both (λ y ys. y ∷ ys) first more) last
 regroup (Some y) (Some ys) (Some z) = refl
 regroup (Some y) (Some ys) None = refl
 regroup (Some y) None last = refl
