@@ -1,7 +1,9 @@
 pub mod Cases
 pub mod Duties
 pub mod Formulas
+pub mod Public
 pub mod Reach
 pub mod Sizes
 pub mod Structures
+pub mod Truths
 pub mod Worked
