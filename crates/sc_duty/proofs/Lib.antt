@@ -1,6 +1,8 @@
 pub mod Ends
+pub mod Gains
 pub mod Meanings
 pub mod Means
+pub mod Running
 pub mod Signed
 pub mod Starting
 pub mod Truths

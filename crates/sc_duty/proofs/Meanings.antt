@@ -115,7 +115,7 @@ got-there (i ∷ ids) (suc k) id e =
 
 module _ (b s : Schema) (written : Written) (st : Structure) (d now : Database) (shows : Shows b s written st d now) where
   -- the variable of a quantifier over the records of a model, at one of them
-  next-is : (n : ℕ) → HasModel s n → (xs : List ℕ) (k id : ℕ) → slice_get (ids_of d n) k ≡ Some id
+  pub next-is : (n : ℕ) → HasModel s n → (xs : List ℕ) (k id : ℕ) → slice_get (ids_of d n) k ≡ Some id
       → IsTermOf b st d (xs ++ k ∷ []) (base.Id n) (Id id) (bound (sort_of b n) (length xs))
   next-is n model xs k id e = λ zs q. (
     id,

@@ -45,7 +45,7 @@ found-index {A} {B} p h (x ∷ xs) y z e =
       | false ↦ λ e. found-index p h xs y z e
     ] e
 
-find-front : {A : Type 0} (p : A → Bool) (xs ys : List A) (y : A) → find p xs ≡ Some y → find p (xs ++ ys) ≡ Some y
+pub find-front : {A : Type 0} (p : A → Bool) (xs ys : List A) (y : A) → find p xs ≡ Some y → find p (xs ++ ys) ≡ Some y
 find-front p [] ys y e = cc
 find-front {A} p (x ∷ xs) ys y e =
     elim (p x) as (λ (t : Bool). cond t (Some x) (find p xs) ≡ Some y → cond t (Some x) (find p (xs ++ ys)) ≡ Some y) [
@@ -53,7 +53,7 @@ find-front {A} p (x ∷ xs) ys y e =
       | false ↦ λ e. find-front p xs ys y e
     ] e
 
-find-behind : {A : Type 0} (p : A → Bool) (xs ys : List A) → find p xs ≡ None → find p (xs ++ ys) ≡ find p ys
+pub find-behind : {A : Type 0} (p : A → Bool) (xs ys : List A) → find p xs ≡ None → find p (xs ++ ys) ≡ find p ys
 find-behind p [] ys e = refl
 find-behind {A} p (x ∷ xs) ys e =
     elim (p x) as (λ (t : Bool). cond t (Some x) (find p xs) ≡ None → cond t (Some x) (find p (xs ++ ys)) ≡ find p ys) [

@@ -1,6 +1,7 @@
 pub mod Cases
 pub mod Duties
 pub mod Formulas
+pub mod Gains
 pub mod Public
 pub mod Reach
 pub mod Sizes

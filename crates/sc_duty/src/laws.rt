@@ -1,5 +1,6 @@
 //! Laws over the definitions alone. Each is the contract of a function that does nothing.
 
+ghost use Rattle.sc_duty.specs.Gains.{GainFormulasAreTrue};
 ghost use Rattle.sc_duty.specs.Truths.{FormulasAreTrue};
 ghost use Rattle.sc_duty.specs.Worked.{ExpandedIsCounted, WorkedFormulas};
 
@@ -7,6 +8,12 @@ ghost use Rattle.sc_duty.specs.Worked.{ExpandedIsCounted, WorkedFormulas};
 /// where the condition is, and that of a policy where the policy allows; and so are the negations.
 pub fn formulas_are_true()
     ensures { FormulasAreTrue }
+{}
+
+/// On each start database of a script, the formula of an obligation against gains is true exactly
+/// where some principal of its kind gains the right, as long as no field was added before.
+pub fn gain_formulas_are_true()
+    ensures { GainFormulasAreTrue }
 {}
 
 /// Worked formulas and sizes, which show what the definitions give on a schema of users.

@@ -13,6 +13,7 @@
 //! | `specs/Reach.antt` | the formula of a use of a field in an initialiser |
 //! | `specs/Duties.antt` | the obligations of a script, and the formula of each |
 //! | `specs/Sizes.antt` | the sizes of policies and initialisers |
+//! | `specs/Gains.antt` | where the formula of an obligation against gains is true |
 //! | `specs/Truths.antt` | the formulas of conditions and policies tell what they mean |
 #![tactic(auto)]
 
@@ -20,4 +21,4 @@ mod duty;
 mod laws;
 
 pub use duty::Duty;
-pub use laws::{expanded_is_counted, formulas_are_true, worked_formulas};
+pub use laws::{expanded_is_counted, formulas_are_true, gain_formulas_are_true, worked_formulas};
