@@ -34,9 +34,9 @@ use Rattle.sc_formula.specs.Truth.{truth}
 use Rattle.sc_duty.specs.declared.duty.Duty.{Duty}
 use Rattle.sc_duty.specs.Structures.{sort_of, element_of, structure_of}
 use Rattle.sc_duty.specs.Cases.{constant}
-use Rattle.sc_duty.specs.Formulas.{Who, static, record_at, nothing_written, written_out, is_allowed}
+use Rattle.sc_duty.specs.Formulas.{Who, static, record_at, nothing_written, is_allowed}
 use Rattle.sc_duty.specs.Duties.{written_at, has_right, for_some, for_some_principal, gain_formula_of}
-use Rattle.sc_duty.specs.Gains.{IsGainDuty, GainsSomebody, AddsNoField, GainFormulasAreTrue}
+use Rattle.sc_duty.specs.Gains.{IsGainDuty, GainsSomebody, GainFormulasAreTrue}
 use Rattle.sc_duty.proofs.Signed.{same-unsign, constant-truth, exists-truth}
 use Rattle.sc_duty.proofs.Means.{IsPrefix, prefix-more, IsTermOf, IsWho, term-more}
 use Rattle.sc_duty.proofs.Meanings.{Shows, next-is, allowed-means}
@@ -148,49 +148,25 @@ module _ (t : Script) (is : IsScript t) (d : Database) (start : IsStart t d) whe
 
   -- ---- rights
 
-  module _ (k : ℕ) (within : k ≤ count t) (none : AddsNoField t k) (target : Target) (right : Right) where
+  module _ (k : ℕ) (within : k ≤ count t) (target : Target) (right : Right) where
     abbrev db : Structure
     db = structure_of t.start d
-
-    nothing-added : (j : ℕ) → j ≤ k → (schema_at t j).added ≡ []
-    nothing-added zero less = is.nothing_added
-    nothing-added (suc j) less =
-        let c = command-there t is j (omega (arith, within, less)) in
-        ap (λ (s : Schema). s.added) (is.steps j c.0 c.1)
-        ∙ same-added c.0 (λ m f init same. none j m f init (omega (arith, less)) (c.1 ∙ ap (λ x. Some x) same)) (schema_at t j)
-        ∙ nothing-added j (omega (arith, less))
-      where
-        same-added : (c : Command) → ((m : ℕ) (f : FieldInfo) (init : Init) → c ≡ add_field m f init → ⊥) → (s : Schema)
-            → (let u : Schema = schema_after s c in u.added) ≡ s.added
-        same-added (create_model info) never s = refl
-        same-added (delete_model m) never s = refl
-        same-added (add_static info) never s = refl
-        same-added (remove_static n) never s = refl
-        same-added (add_principal m) never s = refl
-        same-added (add_field m f init) never s = absurd (never m f init refl)
-        same-added (remove_field m f) never s = refl
-        same-added (update_field m f read write) never s = refl
-        same-added (weaken_field m f read write reason) never s = refl
-        same-added (update_model m create delete) never s = refl
-        same-added (weaken_model m create delete reason) never s = refl
 
     right-true : (xs : List ℕ) (id : ℕ) (r : Term) → IsTermOf t.start db d xs (base.Id (model_of_target target)) (Id id) r
         → (q : Principal) (w : Who) → IsWho t.start db d xs q w → (sign : Bool)
         → truth db xs (has_right t k target right r w sign (length xs)) ≡ same_truth sign (has_right_at t k target right d id q)
     right-true xs id r it q w is_who sign =
-        let shows : Shows t.start (schema_at t k) nothing_written db d (run_to t k d) = shown-at t is d start k within none in
-        let added = nothing-added k (omega arith) in
+        let shows : Shows t.start (schema_at t k) (written_at t k) db d (run_to t k d) = shown-at t is d start k within in
         elim (policy_at t k target right) as (λ (o : Option Policy). policy_at t k target right ≡ o
         → truth db xs (option_map_or (λ policy. is_allowed t.start (written_at t k) policy r w sign (length xs)) o (constant (not sign)))
         ≡ same_truth sign (option_map_or (λ policy. allows (run_to t k d) policy id q) o false)) [
           | None ↦ λ here. constant-truth db xs (not sign) ∙ same-unsign sign
           | Some p ↦ λ here.
-              ap (λ a. truth db xs (is_allowed t.start (written_out t.start a) p r w sign (length xs))) added
-              ∙ allowed-means t.start (schema_at t k) nothing_written db d (run_to t k d) shows (model_of_target target) p
+              allowed-means t.start (schema_at t k) (written_at t k) db d (run_to t k d) shows (model_of_target target) p
               (policy-typed (schema_at t k) p (is.proper k within).typed target right here) xs id r it q w is_who sign
         ] refl
 
-module _ (t : Script) (is : IsScript t) (duty : Duty) (of : IsGainDuty t duty) (none : AddsNoField t duty.command) (d : Database) (start : IsStart t d) where
+module _ (t : Script) (is : IsScript t) (duty : Duty) (of : IsGainDuty t duty) (d : Database) (start : IsStart t d) where
   abbrev st : Structure
   st = structure_of t.start d
 
@@ -228,11 +204,8 @@ module _ (t : Script) (is : IsScript t) (duty : Duty) (of : IsGainDuty t duty) (
             }
       ] refl of.updated
 
-  before-none : AddsNoField t (k - 1)
-  before-none j n f init less = none j n f init (omega (arith, less))
-
-  before-shows : Shows t.start (schema_at t (k - 1)) nothing_written st d (run_to t (k - 1) d)
-  before-shows = shown-at t is d start (k - 1) (omega (arith, within)) before-none
+  before-shows : Shows t.start (schema_at t (k - 1)) (written_at t (k - 1)) st d (run_to t (k - 1) d)
+  before-shows = shown-at t is d start (k - 1) (omega (arith, within))
 
   all-shown : Shows t.start t.start nothing_written st d d
   all-shown = first-shown t is d start
@@ -247,8 +220,8 @@ module _ (t : Script) (is : IsScript t) (duty : Duty) (of : IsGainDuty t duty) (
   pair-true : (xs : List ℕ) (id : ℕ) (r : Term) → IsTermOf t.start st d xs (base.Id m) (Id id) r → (q : Principal) (w : Who) → IsWho t.start st d xs q w
       → truth st xs (both (has_right t k duty.target duty.right r w true (length xs)) (has_right t (k - 1) duty.target duty.right r w false (length xs))) ≡ gains id q
   pair-true xs id r it q w is_who =
-      ap2 (λ a b. a && b) (right-true t is d start k within none duty.target duty.right xs id r it q w is_who true)
-      (right-true t is d start (k - 1) (omega (arith, within)) before-none duty.target duty.right xs id r it q w is_who false)
+      ap2 (λ a b. a && b) (right-true t is d start k within duty.target duty.right xs id r it q w is_who true)
+      (right-true t is d start (k - 1) (omega (arith, within)) duty.target duty.right xs id r it q w is_who false)
 
   -- whether some principal of the kind gains it
   abbrev some_gains : Kind → ℕ → Bool
@@ -333,4 +306,4 @@ module _ (t : Script) (is : IsScript t) (duty : Duty) (of : IsGainDuty t duty) (
       (some-gains duty.kind of.kind g.id g.who g.kind g.gain)
 
 pub true_gains : GainFormulasAreTrue
-true_gains t is duty of none d start = (fails t is duty of none d start, holds t is duty of none d start)
+true_gains t is duty of d start = (fails t is duty of d start, holds t is duty of d start)

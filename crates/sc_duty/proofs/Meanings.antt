@@ -148,13 +148,13 @@ module _ (b s : Schema) (written : Written) (st : Structure) (d now : Database) 
       ] refl) ∙ ap (same_truth sign) (sym (record_is n id)))
 
   -- the id of a record, as a value
-  id-term : (m : ℕ) (xs : List ℕ) (v : Value) (u : Term) → IsTermOf b st d xs (base.Id m) v u → IsTermOf b st d xs (base.Id m) (Id (id_of v)) u
+  pub id-term : (m : ℕ) (xs : List ℕ) (v : Value) (u : Term) → IsTermOf b st d xs (base.Id m) v u → IsTermOf b st d xs (base.Id m) (Id (id_of v)) u
   id-term m xs v u it = λ zs q.
       let one = it zs q in
       let same : id_of v ≡ one.0 = ap id_of one.1 in
       (id_of v, refl, ap (has_record d m) same ∙ one.2, one.3 ∙ ap (λ i. Some (sval.Rec (element_of d m i))) (sym same))
 
-  own-there : (m : ℕ) (xs : List ℕ) (id : ℕ) (u : Term) → IsTermOf b st d xs (base.Id m) (Id id) u → has_record d m id ≡ true
+  pub own-there : (m : ℕ) (xs : List ℕ) (id : ℕ) (u : Term) → IsTermOf b st d xs (base.Id m) (Id id) u → has_record d m id ≡ true
   own-there m xs id u it = let one = it xs (prefix-itself xs) in ap (has_record d m) (ap id_of one.1) ∙ one.2
 
   -- the test of an item or of what `map` gives

@@ -1,39 +1,41 @@
--- The structure of a start database shows what the database is after each command, as long as no field was added.
+-- The structure of a start database shows what the database is after each command.
 use Rattle.std.proofs.Common.{◌≡◌, ℕ, zero, suc, ◌+◌, ◌-◌, ◌<◌, ◌≤◌, Bool, true, false, not, List, [], ◌∷◌, ◌++◌, length, ◌⊎◌, refl, ap, sym, ◌∙◌, subst, arith, cond, inl, inr}
 use Rattle.std.specs.Prelude.{Option, Some, None, map, filter, ◌==◌, is_some, IsTrue, slice_get, option_and_then}
-use Rattle.std.specs.List.{find}
+use Rattle.std.specs.List.{find, list_any, AllByRecursion}
 use Rattle.std.specs.Option.{option_map, option_map_or}
 use Rattle.std.proofs.lemmas.Bool.{eqb-true, eq-eqb, false_from_ne_true}
 use Rattle.std.proofs.lemmas.Option.{slice_get_cases}
 use Rattle.sc_schema.specs.declared.types.TBase.TheVariants as base
 use Rattle.sc_schema.specs.declared.types.TTy.{TTy}
+use Rattle.sc_schema.specs.declared.types.TTy.TheVariants.{Set}
 use Rattle.sc_schema.specs.Trees.{Init}
-use Rattle.sc_schema.specs.Schema.{FieldInfo, ModelInfo, Schema, model_in, field_in, model_of, field_of, type_of}
-use Rattle.sc_schema.specs.Typing.{HasModel}
-use Rattle.sc_schema.specs.Commands.{Command, create_model, delete_model, add_static, remove_static, add_principal, add_field, remove_field, update_field, weaken_field, update_model, weaken_model, change_model, with_field, without_field, with_field_policies, with_model_policies, schema_after, IsCommand}
-use Rattle.sc_schema.specs.Proper.{IsProper}
+use Rattle.sc_schema.specs.Schema.{FieldInfo, ModelInfo, Added, Schema, model_in, field_in, model_of, field_of, type_of}
+use Rattle.sc_schema.specs.Typing.{HasModel, IsInit, IsType}
+use Rattle.sc_schema.specs.Commands.{Command, create_model, delete_model, add_static, remove_static, add_principal, add_field, remove_field, update_field, weaken_field, update_model, weaken_model, change_model, with_field, without_field, with_field_policies, with_model_policies, schema_after, AreNumberedFrom, IsCommand}
+use Rattle.sc_schema.specs.Proper.{AreProperFields, IsProper}
 use Rattle.sc_schema.specs.Script.{Script, schema_at, command_at, count, closed_field, closed_model, created_by, created, start_of, IsScript}
 use Rattle.sc_data.specs.Values.{Value, Nothing}
-use Rattle.sc_data.specs.Database.{Slot, Record, Table, Database, ids_of, field_at}
-use Rattle.sc_data.proofs.Finds.{find-holds, find-map, find-last}
+use Rattle.sc_data.specs.Database.{Slot, Record, Table, Database, table_of, records_of, slots_of, ids_of, has_record, field_at, AreSlots, IsRecordIn, HasTable, IsDatabase}
+use Rattle.sc_data.proofs.Finds.{find-holds, find-among, find-none, find-map, find-last}
 use Rattle.sc_eval.specs.Meaning.{id_of}
 use Rattle.sc_eval.specs.Run.{init_value, after_command, after_if_any, run_to, change_slots}
 use Rattle.sc_eval.specs.Gain.{IsStart}
 use Rattle.sc_eval.proofs.Agreement.{Agree}
-use Rattle.sc_eval.proofs.Changes.{ids-changed, field-kept, table-kept}
-use Rattle.sc_eval.proofs.Kept.{found-field, field-below, model-below}
-use Rattle.sc_eval.proofs.Meanings.{agree-removed, agree-deleted}
-use Rattle.sc_eval.proofs.Policies.{model-changed}
+use Rattle.sc_eval.proofs.Changes.{ids-changed, slots-changed, table-kept}
+use Rattle.sc_eval.proofs.Kept.{found-field, field-typed, field-below, model-below}
+use Rattle.sc_eval.proofs.Meanings.{agree-added, agree-removed, agree-deleted}
+use Rattle.sc_eval.proofs.Policies.{model-changed, numbered-from, both-same}
 use Rattle.sc_eval.proofs.Policies as kept
 use Rattle.sc_formula.specs.declared.structure.Structure.{Structure}
 use Rattle.sc_formula.specs.Trees.{Term}
 use Rattle.sc_formula.specs.Truth.{size_of}
 use Rattle.sc_duty.specs.Structures.{sort_of, element_of, structure_of}
-use Rattle.sc_duty.specs.Gains.{AddsNoField}
-use Rattle.sc_duty.specs.Formulas.{Written, nothing_written, field_cases}
-use Rattle.sc_duty.proofs.Means.{HasType, IsTermOf, Means}
+use Rattle.sc_duty.specs.Cases.{Cases, held}
+use Rattle.sc_duty.specs.Formulas.{Written, nothing_written, field_cases, with_added, written_out, init_cases}
+use Rattle.sc_duty.proofs.Means.{prefix-itself, HasType, IsTermOf, Means}
 use Rattle.sc_duty.proofs.Meanings.{Shows}
 use Rattle.sc_duty.proofs.Starting.{find-front, find-behind, shows-itself}
+use Rattle.sc_duty.proofs.Adding.{written-more, written-kept, none-written, added-split, field-new, init-means, init-typed}
 
 has-field : (s : Schema) (m f : ℕ) (t : TTy) → type_of s m f ≡ Some t → (g : FieldInfo) × (field_of s m f ≡ Some g)
 has-field s m f t h =
@@ -99,6 +101,13 @@ module _ (b : Schema) (st : Structure) (d : Database) where
   field-moved written now later m f t same h = (
     λ xs v u it. subst (λ (w : Value). Means b st d xs t w (field_cases b written m f u)) (sym (same (id_of v))) (h.0 xs v u it),
     h.1,
+  )
+
+  pub written-moved : (written other : Written) (now : Database) (m f : ℕ) (t : TTy) → written m f ≡ other m f
+      → ShownField written now m f t → ShownField other now m f t
+  written-moved written other now m f t same h = (
+    λ xs v u it. subst (λ (o : Option (Term → Cases)). Means b st d xs t (field_at now m (id_of v) f) (option_map_or (λ (at : Term → Cases). at u) o (held m f u))) same (h.0 xs v u it),
+    λ u. subst (λ (o : Option (Term → Cases)). HasType b t (option_map_or (λ (at : Term → Cases). at u) o (held m f u))) same (h.1 u),
   )
 
   pub model-moved : (now later : Database) (m : ℕ) → ids_of later m ≡ ids_of now m → ShownModel now m → ShownModel later m
@@ -181,6 +190,85 @@ module _ (s : Schema) where
       let below = field-below (schema_after s c) m f there.0 proper there.1 in
       let old : f < s.next_field = subst (λ (n : ℕ). f < n) (same-next c a) below in
       kept.field-kept (λ (g : FieldInfo). g.ty) t s c is m f old (λ read write e g. refl) (λ read write reason e g. refl) h
+
+-- ---- slots
+
+abbrev slot_in : ℕ → List Slot → Option Slot
+slot_in f slots = find (λ (slot : Slot). slot.field == f) slots
+
+slots-kept : (n : ℕ) (change : Record → List Slot) (now : Database) (m id : ℕ) → (m ≡ n → ⊥) → slots_of (change_slots n change now) m id ≡ slots_of now m id
+slots-kept n change now m id other =
+    let differs : (m == n) ≡ false = false_from_ne_true _ (λ h. other (eqb-true m n h)) in
+    slots-changed n change now m id
+    ∙ (elim (find (λ (r : Record). r.id == id) (records_of now m)) as (λ (o : Option Record).
+    option_map_or (λ (r : Record). cond (m == n) (change r) r.slots) o [] ≡ option_map_or (λ (r : Record). r.slots) o []) [
+      | None ↦ refl
+      | Some r ↦ ap (λ t. cond t (change r) r.slots) differs
+    ])
+
+fresh-changed : (n : ℕ) (change : Record → List Slot) (now : Database) (m id f : ℕ) → ((r : Record) → slot_in f r.slots ≡ None → slot_in f (change r) ≡ None)
+    → slot_in f (slots_of now m id) ≡ None → slot_in f (slots_of (change_slots n change now) m id) ≡ None
+fresh-changed n change now m id f keeps h =
+    ap (slot_in f) (slots-changed n change now m id)
+    ∙ (elim (find (λ (r : Record). r.id == id) (records_of now m)) as (λ (o : Option Record).
+    slot_in f (option_map_or (λ (r : Record). r.slots) o []) ≡ None → slot_in f (option_map_or (λ (r : Record). cond (m == n) (change r) r.slots) o []) ≡ None) [
+      | None ↦ λ e. e
+      | Some r ↦ λ e. elim (m == n) as (λ (t : Bool). slot_in f (cond t (change r) r.slots) ≡ None) [ true ↦ keeps r e | false ↦ e ]
+    ]) h
+
+none-filtered : {A : Type 0} (p keep : A → Bool) (xs : List A) → find p xs ≡ None → find p (filter keep xs) ≡ None
+none-filtered p keep [] h = h
+none-filtered {A} p keep (x ∷ xs) h =
+    elim (p x) as (λ (t : Bool). p x ≡ t → cond t (Some x) (find p xs) ≡ None → find p (cond (keep x) (x ∷ filter keep xs) (filter keep xs)) ≡ None) [
+      | true ↦ λ here e. cc
+      | false ↦ λ here e.
+          elim (keep x) as (λ (t : Bool). find p (cond t (x ∷ filter keep xs) (filter keep xs)) ≡ None) [
+            | true ↦ ap (λ t. cond t (Some x) (find p (filter keep xs))) here ∙ none-filtered p keep xs e
+            | false ↦ none-filtered p keep xs e
+          ]
+    ] refl h
+
+all-mapped : {A B : Type 0} (P : B → Type 0) (g : A → B) (xs : List A) → AllByRecursion P (map g xs) → AllByRecursion (λ x. P (g x)) xs
+all-mapped P g [] h = tt
+all-mapped P g (x ∷ xs) h = (h.0, all-mapped P g xs h.1)
+
+numbered-below : (n : ℕ) (fields : List FieldInfo) (k : ℕ) → AreNumberedFrom n fields → n + length fields ≤ k → AllByRecursion (λ (g : FieldInfo). g.number < k) (map closed_field fields)
+numbered-below n [] k h less = tt
+numbered-below n (g ∷ fields) k h less = (
+  (let number : g.number ≡ n = h.0 in omega (arith, number, less)),
+  numbered-below (n + 1) fields k h.1 (omega (arith, less)),
+)
+
+-- the slots of a record have numbers of fields
+slots-none : (d : Database) (n f : ℕ) (fields : List FieldInfo) (slots : List Slot) → AreSlots d fields slots → AllByRecursion (λ (g : FieldInfo). g.number < n) fields → n ≤ f
+    → slot_in f slots ≡ None
+slots-none d n f [] [] is below above = refl
+slots-none d n f [] (slot ∷ slots) is below above = absurd is
+slots-none d n f (g ∷ fields) [] is below above = absurd is
+slots-none d n f (g ∷ fields) (slot ∷ slots) is below above =
+    let number : slot.field ≡ g.number = is.0.0 in
+    let less : g.number < n = below.0 in
+    let differs : (slot.field == f) ≡ false = false_from_ne_true _ (λ h. let same : slot.field ≡ f = eqb-true _ _ h in absurd (omega (arith, number, same, less, above))) in
+    ap (λ t. cond t (Some slot) (slot_in f slots)) differs ∙ slots-none d n f fields slots is.1 below.1 above
+
+fresh-model : (b : Schema) (d : Database) → IsDatabase b d → (m : ℕ) (i : ModelInfo) → model_of b m ≡ Some i → (n f id : ℕ) → AllByRecursion (λ (g : FieldInfo). g.number < n) i.fields
+    → n ≤ f → slot_in f (slots_of d m id) ≡ None
+fresh-model b d is m i here n f id below above =
+    let table = find-among (HasTable d) (λ (u : ModelInfo). u.number == m) b.models i is.tables here in
+    let number : i.number ≡ m = eqb-true _ _ (find-holds (λ (u : ModelInfo). u.number == m) b.models i here) in
+    let at : table_of d m ≡ Some table.0 = ap (table_of d) (sym number) ∙ table.1 in
+    ap (λ o. slot_in f (option_map_or (λ (r : Record). r.slots) (find (λ (r : Record). r.id == id) (option_map_or (λ (u : Table). u.records) o [])) [])) at
+    ∙ (elim (find (λ (r : Record). r.id == id) table.0.records) as (λ (o : Option Record). find (λ (r : Record). r.id == id) table.0.records ≡ o
+    → slot_in f (option_map_or (λ (r : Record). r.slots) o []) ≡ None) [
+      | None ↦ λ e. refl
+      | Some r ↦ λ e.
+          let one = find-among (IsRecordIn d i table.0.next) (λ (u : Record). u.id == id) table.0.records r table.2.records e in
+          slots-none d n f i.fields r.slots one.slots below above
+    ] refl)
+
+-- no record of a model that is there has a slot of a number that is free
+abbrev pub IsFresh : Schema → Database → Type 0
+IsFresh s now = (m : ℕ) → HasModel s m → (f id : ℕ) → s.next_field ≤ f → slot_in f (slots_of now m id) ≡ None
 
 -- ---- created models
 
@@ -310,7 +398,7 @@ module _ (t : Script) (is : IsScript t) where
 
   -- a model that the command's schema does not have keeps its records
   record Untouched (d now : Database) (from : ℕ) : Type 0 where
-    fields : (m f id : ℕ) → from ≤ m → field_at now m id f ≡ field_at d m id f
+    slots : (m id : ℕ) → from ≤ m → slots_of now m id ≡ slots_of d m id
     ids : (m : ℕ) → from ≤ m → ids_of now m ≡ ids_of d m
 
   model-early : (k m : ℕ) → k ≤ count t → HasModel (schema_at t k) m → m < (schema_at t k).next_model
@@ -323,13 +411,13 @@ module _ (t : Script) (is : IsScript t) where
   module _ (d : Database) where
     changed-untouched : (now : Database) (from n : ℕ) (change : Record → List Slot) → n < from → Untouched d now from → Untouched d (change_slots n change now) from
     changed-untouched now from n change early h = record {
-      fields = λ m f id late. field-kept n change now m id f (λ same r. absurd (omega (arith, same, late, early))) ∙ h.fields m f id late;
+      slots = λ m id late. slots-kept n change now m id (λ same. absurd (omega (arith, same, late, early))) ∙ h.slots m id late;
       ids = λ m late. ids-changed n change now m ∙ h.ids m late;
     }
 
     same-untouched : (now : Database) (from more : ℕ) → from ≤ more → Untouched d now from → Untouched d now more
     same-untouched now from more up h = record {
-      fields = λ m f id late. h.fields m f id (omega (arith, up, late));
+      slots = λ m id late. h.slots m id (omega (arith, up, late));
       ids = λ m late. h.ids m (omega (arith, up, late));
     }
 
@@ -339,10 +427,9 @@ module _ (t : Script) (is : IsScript t) where
     untouched-after k within now h (delete_model n) e =
         let early = model-early k n within e in
         record {
-          fields = λ m f id late.
-              ap (λ o. option_map_or (λ (slot : Slot). slot.value) (find (λ (slot : Slot). slot.field == f)
-              (option_map_or (λ (r : Record). r.slots) (find (λ (r : Record). r.id == id) (option_map_or (λ (t : Table). t.records) o [])) [])) Nothing)
-              (table-kept now n m (λ same. absurd (omega (arith, same, late, early)))) ∙ h.fields m f id late;
+          slots = λ m id late.
+              ap (λ o. option_map_or (λ (r : Record). r.slots) (find (λ (r : Record). r.id == id) (option_map_or (λ (t : Table). t.records) o [])) [])
+              (table-kept now n m (λ same. absurd (omega (arith, same, late, early)))) ∙ h.slots m id late;
           ids = λ m late.
               ap (λ o. map (λ (r : Record). r.id) (option_map_or (λ (t : Table). t.records) o []))
               (table-kept now n m (λ same. absurd (omega (arith, same, late, early)))) ∙ h.ids m late;
@@ -364,7 +451,7 @@ module _ (t : Script) (is : IsScript t) where
     run-after k c here = ap (λ o. after_if_any o (run_to t k d)) here
 
     untouched-at : (k : ℕ) → k ≤ count t → Untouched d (run_to t k d) (schema_at t k).next_model
-    untouched-at zero within = record { fields = λ m f id late. refl; ids = λ m late. refl }
+    untouched-at zero within = record { slots = λ m id late. refl; ids = λ m late. refl }
     untouched-at (suc k) within =
         let c = command-there t is k (omega (arith, within)) in
         let early : k ≤ count t = omega (arith, within) in
@@ -412,65 +499,231 @@ module _ (t : Script) (is : IsScript t) (d : Database) (start : IsStart t d) whe
   pub first-shown : Shows t.start t.start nothing_written st d d
   first-shown = shows-itself t.start d start.over
 
+  -- ---- slots
+
+  first-fresh : IsFresh (schema_at t 0) d
+  first-fresh m h f id above =
+      elim (model_of (schema_at t 0) m) as (λ (o : Option ModelInfo). model_of (schema_at t 0) m ≡ o → is_some o ≡ true → slot_in f (slots_of d m id) ≡ None) [
+        | None ↦ λ here e. cc
+        | Some i ↦ λ here e.
+            let found : model_of t.start m ≡ Some i
+            = ap (λ (s : Schema). model_of s m) is.start
+            ∙ find-front (λ (i : ModelInfo). i.number == m) (schema_at t 0).models (created t.commands) i here in
+            let proper = is.proper 0 (omega arith) in
+            let fields = find-among (AreProperFields (schema_at t 0).next_field) (λ (u : ModelInfo). u.number == m) (schema_at t 0).models i proper.fields here in
+            fresh-model t.start d start.over m i found (schema_at t 0).next_field f id
+            (all-mapped (λ n. n < (schema_at t 0).next_field) (λ (g : FieldInfo). g.number) i.fields fields.numbers.below) above
+      ] refl h
+
+  fresh-after : (k : ℕ) → k < count t → (c : Command) → command_at t k ≡ Some c → IsFresh (schema_at t k) (run_to t k d)
+      → IsFresh (schema_after (schema_at t k) c) (after_command c (run_to t k d))
+  fresh-after k below (create_model info) here fresh m h f id above =
+      let number = created-number t is k info here in
+      let early : k ≤ count t = omega (arith, below) in
+      elim (model-split (schema_at t k) info m h) [
+        | inl old ↦ fresh m old f id (omega (arith, above))
+        | inr new ↦
+            let late : (schema_at t k).next_model ≤ m = omega (arith, number, new) in
+            let found : model_of t.start m ≡ Some (closed_model info) = subst (λ (n : ℕ). model_of t.start n ≡ Some (closed_model info)) new (created-model t is k info below here) in
+            let untouched = untouched-at t is d k early in
+            ap (slot_in f) (untouched.slots m id late)
+            ∙ fresh-model t.start d start.over m (closed_model info) found ((schema_at t k).next_field + length info.fields) f id
+            (numbered-below (schema_at t k).next_field info.fields ((schema_at t k).next_field + length info.fields) (is.commands k (create_model info) here).1 (omega arith)) above
+      ]
+  fresh-after k below (delete_model n) here fresh m h f id above =
+      let now : Database = run_to t k d in
+      elim (m == n) as (λ (b : Bool). (m == n) ≡ b → slot_in f (slots_of (after_command (delete_model n) now) m id) ≡ None) [
+        | true ↦ λ same.
+            let gone : table_of (after_command (delete_model n) now) m ≡ None
+            = find-none (λ (t : Table). t.model == m) (λ (t : Table). not (t.model == n)) now (λ t is. ap not (eq-eqb _ _ (eqb-true _ _ is ∙ eqb-true _ _ same))) in
+            ap (λ o. slot_in f (option_map_or (λ (r : Record). r.slots) (find (λ (r : Record). r.id == id) (option_map_or (λ (u : Table). u.records) o [])) [])) gone
+        | false ↦ λ other.
+            let differs : m ≡ n → ⊥ = λ e. let never : true ≡ false = sym (eq-eqb m n e) ∙ other in cc in
+            ap (λ o. slot_in f (option_map_or (λ (r : Record). r.slots) (find (λ (r : Record). r.id == id) (option_map_or (λ (u : Table). u.records) o [])) []))
+            (table-kept now n m differs)
+            ∙ fresh m (model-there (schema_at t k) (delete_model n) tt m h) f id above
+      ] refl
+  fresh-after k below (add_static info) here fresh m h f id above = fresh m h f id above
+  fresh-after k below (remove_static n) here fresh m h f id above = fresh m h f id above
+  fresh-after k below (add_principal n) here fresh m h f id above = fresh m (model-there (schema_at t k) (add_principal n) tt m h) f id above
+  fresh-after k below (add_field n g init) here fresh m h f id above =
+      let now : Database = run_to t k d in
+      let number : g.number ≡ (schema_at t k).next_field = (is.commands k (add_field n g init) here).1 in
+      let differs : (g.number == f) ≡ false = false_from_ne_true _ (λ e. let same : g.number ≡ f = eqb-true _ _ e in absurd (omega (arith, same, number, above))) in
+      fresh-changed n (λ (r : Record). r.slots ++ (record { field = g.number; value = init_value now init r.id }) ∷ []) now m id f
+      (λ r none. find-behind (λ (slot : Slot). slot.field == f) r.slots ((record { field = g.number; value = init_value now init r.id }) ∷ []) none
+      ∙ ap (λ t. cond t (Some (record { field = g.number; value = init_value now init r.id })) None) differs)
+      (fresh m (changed-there (schema_at t k) n (with_field g) (λ i. refl) m h) f id (omega (arith, above)))
+  fresh-after k below (remove_field n g) here fresh m h f id above =
+      fresh-changed n (λ (r : Record). filter (λ (slot : Slot). not (slot.field == g)) r.slots) (run_to t k d) m id f
+      (λ r none. none-filtered (λ (slot : Slot). slot.field == f) (λ (slot : Slot). not (slot.field == g)) r.slots none)
+      (fresh m (model-there (schema_at t k) (remove_field n g) tt m h) f id above)
+  fresh-after k below (update_field n g read write) here fresh m h f id above = fresh m (model-there (schema_at t k) (update_field n g read write) tt m h) f id above
+  fresh-after k below (weaken_field n g read write reason) here fresh m h f id above = fresh m (model-there (schema_at t k) (weaken_field n g read write reason) tt m h) f id above
+  fresh-after k below (update_model n create delete) here fresh m h f id above = fresh m (model-there (schema_at t k) (update_model n create delete) tt m h) f id above
+  fresh-after k below (weaken_model n create delete reason) here fresh m h f id above = fresh m (model-there (schema_at t k) (weaken_model n create delete reason) tt m h) f id above
+
+  fresh-at : (k : ℕ) → k ≤ count t → IsFresh (schema_at t k) (run_to t k d)
+  fresh-at zero within = first-fresh
+  fresh-at (suc k) within =
+      let below : k < count t = omega (arith, within) in
+      let c = command-there t is k below in
+      let one = fresh-after k below c.0 c.1 (fresh-at k (omega (arith, within))) in
+      subst (λ (s : Schema). IsFresh s (run_to t (suc k) d)) (sym (is.steps k c.0 c.1))
+      (subst (λ (e : Database). IsFresh (schema_after (schema_at t k) c.0) e) (sym (run-after t is d k c.0 c.1)) one)
+
+  -- ---- what is shown
+
+  -- a schema and the database with it, as the script has them after some commands
+  abbrev pub ShowsNow : Schema → Database → Type 0
+  ShowsNow s now = Shows t.start s (written_out t.start s.added) st d now
+
   created-shown : (k : ℕ) → k < count t → (info : ModelInfo) → command_at t k ≡ Some (create_model info)
-      → Shows t.start (schema_at t k) nothing_written st d (run_to t k d)
-      → Shows t.start (schema_after (schema_at t k) (create_model info)) nothing_written st d (run_to t k d)
+      → ShowsNow (schema_at t k) (run_to t k d) → ShowsNow (schema_after (schema_at t k) (create_model info)) (run_to t k d)
   created-shown k below info here shows =
       let now : Database = run_to t k d in
       let early : k ≤ count t = omega (arith, below) in
       let number = created-number t is k info here in
       let untouched = untouched-at t is d k early in
-      shows-all t.start st d (schema_after (schema_at t k) (create_model info)) nothing_written now
+      let written : Written = written_out t.start (schema_at t k).added in
+      shows-all t.start st d (schema_after (schema_at t k) (create_model info)) written now
       (λ m f ty h. elim (type-split (schema_at t k) info m f ty h) [
-        | inl old ↦ shown-field t.start st d (schema_at t k) nothing_written now shows m f ty old
+        | inl old ↦ shown-field t.start st d (schema_at t k) written now shows m f ty old
         | inr new ↦
             let late : (schema_at t k).next_model ≤ m = omega (arith, number, new.0) in
             let typed : type_of t.start m f ≡ Some ty = subst (λ (n : ℕ). type_of t.start n f ≡ Some ty) new.0 (created-type t is k info below here f ty new.1) in
-            field-moved t.start st d nothing_written d now m f ty (λ id. untouched.fields m f id late)
-            (shown-field t.start st d t.start nothing_written d first-shown m f ty typed)
+            let above : (schema_at t k).next_field ≤ f = field-late (schema_at t k).next_field info.fields f ty (is.commands k (create_model info) here).1 new.1 in
+            written-moved t.start st d nothing_written written now m f ty (sym (none-written t.start (schema_at t k) (is.proper k early) m f above))
+            (field-moved t.start st d nothing_written d now m f ty
+            (λ id. ap (λ slots. option_map_or (λ (slot : Slot). slot.value) (slot_in f slots) Nothing) (untouched.slots m id late))
+            (shown-field t.start st d t.start nothing_written d first-shown m f ty typed))
       ])
       (λ m h. elim (model-split (schema_at t k) info m h) [
-        | inl old ↦ shown-model t.start st d (schema_at t k) nothing_written now shows m old
+        | inl old ↦ shown-model t.start st d (schema_at t k) written now shows m old
         | inr new ↦
             let late : (schema_at t k).next_model ≤ m = omega (arith, number, new) in
             let there : HasModel t.start m = subst (λ (n : ℕ). HasModel t.start n) new (created-there t is k info below here) in
             model-moved t.start st d d now m (untouched.ids m late) (shown-model t.start st d t.start nothing_written d first-shown m there)
       ])
+    where
+      field-late : (n : ℕ) (fields : List FieldInfo) (f : ℕ) (ty : TTy) → AreNumberedFrom n fields → option_map (λ (g : FieldInfo). g.ty) (field_in fields f) ≡ Some ty → n ≤ f
+      field-late n fields f ty numbered h =
+          elim (field_in fields f) as (λ (o : Option FieldInfo). field_in fields f ≡ o → option_map (λ (g : FieldInfo). g.ty) o ≡ Some ty → n ≤ f) [
+            | None ↦ λ here e. cc
+            | Some g ↦ λ here e. numbered-from n fields f g numbered here
+          ] refl h
 
-  -- a command that adds no field
+  -- the field that a command adds
+  module _ (k : ℕ) (below : k < count t) (m0 : ℕ) (g : FieldInfo) (init : Init) (here : command_at t k ≡ Some (add_field m0 g init))
+      (proper : IsProper (schema_after (schema_at t k) (add_field m0 g init))) (shows : ShowsNow (schema_at t k) (run_to t k d)) where
+    abbrev s : Schema
+    s = schema_at t k
+
+    abbrev now : Database
+    now = run_to t k d
+
+    abbrev new : Added
+    new = record { model = m0; field = g.number; init = init }
+
+    abbrev before_it : Written
+    before_it = written_out t.start s.added
+
+    abbrev with_it : Written
+    with_it = with_added t.start before_it new
+
+    early : k ≤ count t
+    early = omega (arith, below)
+
+    asks : HasModel s m0 × (g.number ≡ s.next_field) × IsInit s m0 g.ty init
+    asks = is.commands k (add_field m0 g init) here
+
+    -- the model of a set that the field holds
+    target : (n : ℕ) → g.ty ≡ Set n → type_of (schema_after s (add_field m0 g init)) m0 g.number ≡ Some g.ty → HasModel s n
+    target n e typed =
+        let there = has-field (schema_after s (add_field m0 g init)) m0 g.number g.ty typed in
+        let ty : there.0.ty ≡ Set n = (let one : option_map (λ (x : FieldInfo). x.ty) (Some there.0) ≡ Some g.ty = ap (option_map (λ (x : FieldInfo). x.ty)) (sym there.1) ∙ typed in let two : there.0.ty ≡ g.ty = cc in two ∙ e) in
+        let field = field-typed (schema_after s (add_field m0 g init)) m0 g.number there.0 proper.typed there.1 in
+        changed-there s m0 (with_field g) (λ i. refl) n (subst (IsType (schema_after s (add_field m0 g init))) ty field.ty)
+
+    new-shown : type_of (schema_after s (add_field m0 g init)) m0 g.number ≡ Some g.ty
+        → ShownField t.start st d with_it (after_command (add_field m0 g init) now) m0 g.number g.ty
+    new-shown typed =
+        let cases : (u : Term) → field_cases t.start with_it m0 g.number u ≡ init_cases t.start before_it init u
+        = λ u. ap (λ b. option_map_or (λ (at : Term → Cases). at u) (cond b (Some (init_cases t.start before_it init)) (before_it m0 g.number)) (held m0 g.number u))
+        (both-same m0 m0 g.number g.number refl refl) in
+        (
+          λ xs v u it.
+              let at = it xs (prefix-itself xs) in
+              let there : has_record now m0 (id_of v) ≡ true
+              = ap (list_any (λ i. i == id_of v)) (shows.ids m0 asks.0) ∙ ap (has_record d m0) (ap id_of at.1) ∙ at.2 in
+              let value : field_at (after_command (add_field m0 g init) now) m0 (id_of v) g.number ≡ init_value now init (id_of v)
+              = field-new m0 g init now (id_of v) there (fresh-at k early m0 asks.0 g.number (id_of v) (omega (arith, asks.1))) in
+              subst (λ (w : Value). Means t.start st d xs g.ty w (field_cases t.start with_it m0 g.number u)) (sym value)
+              (subst (λ (c : Cases). Means t.start st d xs g.ty (init_value now init (id_of v)) c) (sym (cases u))
+              (init-means t.start s before_it st d now shows m0 g.ty init asks.2 (λ n e. target n e typed) xs v u it)),
+          λ u. subst (λ (c : Cases). HasType t.start g.ty c) (sym (cases u)) (init-typed t.start s before_it st d now shows m0 g.ty init asks.2 u),
+        )
+
+    added-shown : ShowsNow (schema_after s (add_field m0 g init)) (after_command (add_field m0 g init) now)
+    added-shown =
+        let later : Schema = schema_after s (add_field m0 g init) in
+        let agree = agree-added s m0 g init now (is.proper k early) asks.1 in
+        subst (λ (w : Written). Shows t.start later w st d (after_command (add_field m0 g init) now)) (sym (written-more t.start s.added new))
+        (shows-all t.start st d later with_it (after_command (add_field m0 g init) now)
+        (λ m f ty h. elim (added-split s m0 g init m f ty h) [
+          | inl old ↦
+              let there = has-field s m f ty old in
+              let low : f < s.next_field = field-below s m f there.0 (is.proper k early) there.1 in
+              written-moved t.start st d before_it with_it (after_command (add_field m0 g init) now) m f ty
+              (sym (written-kept t.start before_it new m f (λ same. absurd (omega (arith, same, asks.1, low)))))
+              (field-moved t.start st d before_it now (after_command (add_field m0 g init) now) m f ty (λ id. agree.fields m f id ty old)
+              (shown-field t.start st d s before_it now shows m f ty old))
+          | inr is_new ↦
+              let typed : type_of later m0 g.number ≡ Some g.ty
+              = subst (λ (i : ℕ). type_of later i g.number ≡ Some g.ty) (sym is_new.0)
+              (subst (λ (i : ℕ). type_of later m i ≡ Some g.ty) (sym is_new.1) (h ∙ ap (λ (x : TTy). Some x) (sym is_new.2))) in
+              subst (λ (i : ℕ). ShownField t.start st d with_it (after_command (add_field m0 g init) now) i f ty) is_new.0
+              (subst (λ (i : ℕ). ShownField t.start st d with_it (after_command (add_field m0 g init) now) m0 i ty) is_new.1
+              (subst (λ (x : TTy). ShownField t.start st d with_it (after_command (add_field m0 g init) now) m0 g.number x) is_new.2 (new-shown typed)))
+        ])
+        (λ m h.
+        let old = changed-there s m0 (with_field g) (λ i. refl) m h in
+        model-moved t.start st d now (after_command (add_field m0 g init) now) m (agree.models m old) (shown-model t.start st d s before_it now shows m old)))
+
+  -- a command that adds nothing
   module _ (k : ℕ) (below : k < count t) (c : Command) (here : command_at t k ≡ Some c) (proper : IsProper (schema_after (schema_at t k) c))
-      (shows : Shows t.start (schema_at t k) nothing_written st d (run_to t k d)) where
-    plain-after : (a : AddsNothing c) → Shows t.start (schema_after (schema_at t k) c) nothing_written st d (after_command c (run_to t k d))
+      (shows : ShowsNow (schema_at t k) (run_to t k d)) where
+    plain-after : (a : AddsNothing c) → Shows t.start (schema_after (schema_at t k) c) (written_out t.start (schema_at t k).added) st d (after_command c (run_to t k d))
     plain-after a =
-        shows-less t.start st d (schema_at t k) (schema_after (schema_at t k) c) nothing_written (run_to t k d) (after_command c (run_to t k d)) shows
+        shows-less t.start st d (schema_at t k) (schema_after (schema_at t k) c) (written_out t.start (schema_at t k).added) (run_to t k d) (after_command c (run_to t k d)) shows
         (agrees (schema_at t k) c a (run_to t k d)) (field-there (schema_at t k) c a (is.commands k c here) proper) (model-there (schema_at t k) c a)
 
-  shown-after : (k : ℕ) → k < count t → (c : Command) → command_at t k ≡ Some c → ((m : ℕ) (f : FieldInfo) (init : Init) → c ≡ add_field m f init → ⊥)
-      → IsProper (schema_after (schema_at t k) c) → Shows t.start (schema_at t k) nothing_written st d (run_to t k d)
-      → Shows t.start (schema_after (schema_at t k) c) nothing_written st d (after_command c (run_to t k d))
-  shown-after k below (create_model info) here none proper shows = created-shown k below info here shows
-  shown-after k below (delete_model n) here none proper shows = plain-after k below (delete_model n) here proper shows tt
-  shown-after k below (add_static info) here none proper shows = plain-after k below (add_static info) here proper shows tt
-  shown-after k below (remove_static n) here none proper shows = plain-after k below (remove_static n) here proper shows tt
-  shown-after k below (add_principal n) here none proper shows = plain-after k below (add_principal n) here proper shows tt
-  shown-after k below (add_field n f init) here none proper shows = absurd (none n f init refl)
-  shown-after k below (remove_field n f) here none proper shows = plain-after k below (remove_field n f) here proper shows tt
-  shown-after k below (update_field n f read write) here none proper shows = plain-after k below (update_field n f read write) here proper shows tt
-  shown-after k below (weaken_field n f read write reason) here none proper shows = plain-after k below (weaken_field n f read write reason) here proper shows tt
-  shown-after k below (update_model n create delete) here none proper shows = plain-after k below (update_model n create delete) here proper shows tt
-  shown-after k below (weaken_model n create delete reason) here none proper shows = plain-after k below (weaken_model n create delete reason) here proper shows tt
+  shown-after : (k : ℕ) → k < count t → (c : Command) → command_at t k ≡ Some c → IsProper (schema_after (schema_at t k) c)
+      → ShowsNow (schema_at t k) (run_to t k d) → ShowsNow (schema_after (schema_at t k) c) (after_command c (run_to t k d))
+  shown-after k below (create_model info) here proper shows = created-shown k below info here shows
+  shown-after k below (delete_model n) here proper shows = plain-after k below (delete_model n) here proper shows tt
+  shown-after k below (add_static info) here proper shows = plain-after k below (add_static info) here proper shows tt
+  shown-after k below (remove_static n) here proper shows = plain-after k below (remove_static n) here proper shows tt
+  shown-after k below (add_principal n) here proper shows = plain-after k below (add_principal n) here proper shows tt
+  shown-after k below (add_field n f init) here proper shows = added-shown k below n f init here proper shows
+  shown-after k below (remove_field n f) here proper shows = plain-after k below (remove_field n f) here proper shows tt
+  shown-after k below (update_field n f read write) here proper shows = plain-after k below (update_field n f read write) here proper shows tt
+  shown-after k below (weaken_field n f read write reason) here proper shows = plain-after k below (weaken_field n f read write reason) here proper shows tt
+  shown-after k below (update_model n create delete) here proper shows = plain-after k below (update_model n create delete) here proper shows tt
+  shown-after k below (weaken_model n create delete reason) here proper shows = plain-after k below (weaken_model n create delete reason) here proper shows tt
 
-  pub shown-at : (k : ℕ) → k ≤ count t → AddsNoField t k → Shows t.start (schema_at t k) nothing_written st d (run_to t k d)
-  shown-at zero within none =
-      shows-less t.start st d t.start (schema_at t 0) nothing_written d d first-shown (agree-itself (schema_at t 0) d) (first-type t is) (first-there t is)
-  shown-at (suc k) within none =
+  pub shown-at : (k : ℕ) → k ≤ count t → ShowsNow (schema_at t k) (run_to t k d)
+  shown-at zero within =
+      subst (λ (added : List Added). Shows t.start (schema_at t 0) (written_out t.start added) st d d) (sym is.nothing_added)
+      (shows-less t.start st d t.start (schema_at t 0) nothing_written d d first-shown (agree-itself (schema_at t 0) d) (first-type t is) (first-there t is))
+  shown-at (suc k) within =
       let below : k < count t = omega (arith, within) in
       let c = command-there t is k below in
-      let before = shown-at k (omega (arith, within)) (λ j m f init less. none j m f init (omega (arith, less))) in
+      let before = shown-at k (omega (arith, within)) in
       let proper : IsProper (schema_after (schema_at t k) c.0) = subst IsProper (is.steps k c.0 c.1) (is.proper (suc k) within) in
-      let after = shown-after k below c.0 c.1 (λ m f init same. none k m f init (omega arith) (c.1 ∙ ap (λ x. Some x) same)) proper before in
-      subst (λ (s : Schema). Shows t.start s nothing_written st d (run_to t (suc k) d)) (sym (is.steps k c.0 c.1))
-      (subst (λ (e : Database). Shows t.start (schema_after (schema_at t k) c.0) nothing_written st d e) (sym (run-after t is d k c.0 c.1)) after)
+      let after = shown-after k below c.0 c.1 proper before in
+      subst (λ (s : Schema). ShowsNow s (run_to t (suc k) d)) (sym (is.steps k c.0 c.1))
+      (subst (λ (e : Database). ShowsNow (schema_after (schema_at t k) c.0) e) (sym (run-after t is d k c.0 c.1)) after)
 
   from-before : (k : ℕ) → k < count t → (c : Command) → command_at t k ≡ Some c → (m : ℕ) → HasModel (schema_after (schema_at t k) c) m
       → (HasModel (schema_at t k) m → HasModel t.start m) → HasModel t.start m

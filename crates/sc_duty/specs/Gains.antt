@@ -1,9 +1,6 @@
 -- The formula of an obligation against gains is true where somebody gains.
-use Rattle.std.specs.Prelude.{◌≡◌, ◌≤◌, ◌<◌, ◌-◌, ◌↔◌, ℕ, true, false, List, [], Some}
+use Rattle.std.specs.Prelude.{◌≡◌, ◌≤◌, ◌-◌, ◌↔◌, ℕ, true, false, []}
 use Rattle.std.specs.Option.{option_map_or}
-use Rattle.sc_schema.specs.Trees.{Init}
-use Rattle.sc_schema.specs.Schema.{FieldInfo}
-use Rattle.sc_schema.specs.Commands.{add_field}
 use Rattle.sc_schema.specs.Script.{Script, command_at, IsScript}
 use Rattle.sc_schema.specs.Kinds.{is_kind_at}
 use Rattle.sc_data.specs.declared.principals.Principal.{Principal}
@@ -27,12 +24,8 @@ pub record GainsSomebody (t : Script) (duty : Duty) (d : Database) : Type 0 wher
   pub kind : kind_of who ≡ duty.kind
   pub gain : GainAt t duty.command duty.target duty.right d id who
 
--- the first k commands add no field
-abbrev pub AddsNoField : Script → ℕ → Type 0
-AddsNoField t k = (j m : ℕ) (f : FieldInfo) (init : Init) → j < k → command_at t j ≡ Some (add_field m f init) → ⊥
-
--- On each start database the formula of an obligation is true exactly where it fails, as long as no field was added before its command.
+-- On each start database the formula of an obligation is true exactly where it fails.
 abbrev pub GainFormulasAreTrue : Type 0
 GainFormulasAreTrue =
-    (t : Script) → IsScript t → (duty : Duty) → IsGainDuty t duty → AddsNoField t duty.command → (d : Database) → IsStart t d
+    (t : Script) → IsScript t → (duty : Duty) → IsGainDuty t duty → (d : Database) → IsStart t d
     → (truth (structure_of t.start d) [] (gain_formula_of t duty) ≡ true) ↔ GainsSomebody t duty d

@@ -6,5 +6,5 @@ pub use Rattle.sc_duty.specs.Reach.{reach, set_reach, init_reach}
 pub use Rattle.sc_duty.specs.Duties.{obligations_of, gain_formula_of, flow_formula_of, formula_of}
 pub use Rattle.sc_duty.specs.Sizes.{size, policy_size, init_size}
 pub use Rattle.sc_duty.specs.Truths.{who_at, own_element, TellsTheTruth, FormulasAreTrue}
-pub use Rattle.sc_duty.specs.Gains.{IsGainDuty, GainsSomebody, AddsNoField, GainFormulasAreTrue}
+pub use Rattle.sc_duty.specs.Gains.{IsGainDuty, GainsSomebody, GainFormulasAreTrue}
 pub use Rattle.sc_duty.specs.Worked.{WorkedFormulas, ExpandedIsCounted}

@@ -11,7 +11,7 @@ pub fn formulas_are_true()
 {}
 
 /// On each start database of a script, the formula of an obligation against gains is true exactly
-/// where some principal of its kind gains the right, as long as no field was added before.
+/// where some principal of its kind gains the right at its command.
 pub fn gain_formulas_are_true()
     ensures { GainFormulasAreTrue }
 {}
