@@ -1,32 +1,31 @@
 -- The structure of a start database shows a field that a command adds.
-use Rattle.std.proofs.Common.{◌≡◌, ℕ, ◌+◌, ◌<◌, ◌≤◌, ◌⊎◌, Bool, true, false, not, ◌&&◌, ◌||◌, List, [], ◌∷◌, ◌++◌, length, refl, ap, sym, ◌∙◌, subst, arith, cond, inl, inr}
-use Rattle.std.specs.Prelude.{Option, Some, None, map, filter, fold, ◌==◌, is_some, option_and_then, if◌then◌else◌}
+use Rattle.std.proofs.Common.{◌≡◌, ℕ, ◌<◌, ◌≤◌, ◌⊎◌, Bool, true, false, ◌&&◌, ◌||◌, List, [], ◌∷◌, ◌++◌, refl, ap, sym, ◌∙◌, arith, cond, inl, inr}
+use Rattle.std.specs.Prelude.{Option, Some, None, map, filter, fold, ◌==◌, option_and_then, if◌then◌else◌}
 use Rattle.std.specs.List.{find, list_any, AllByRecursion}
 use Rattle.std.specs.Option.{option_map, option_map_or}
 use Rattle.std.proofs.lemmas.Bool.{eqb-true, eq-eqb, false_from_ne_true}
 use Rattle.sc_schema.specs.declared.types.TBase.TheVariants as base
 use Rattle.sc_schema.specs.declared.types.TTy.{TTy}
-use Rattle.sc_schema.specs.declared.types.TTy.TheVariants.{Plain, Set, Opt}
+use Rattle.sc_schema.specs.declared.types.TTy.TheVariants.{Plain, Set}
 use Rattle.sc_schema.specs.Trees.{Init, plain, of_set}
-use Rattle.sc_schema.specs.Schema.{FieldInfo, ModelInfo, Added, Schema, model_in, field_in, model_of, type_of}
+use Rattle.sc_schema.specs.Schema.{FieldInfo, ModelInfo, Added, Schema, field_in, type_of}
 use Rattle.sc_schema.specs.Typing.{HasModel, records, IsInit}
-use Rattle.sc_schema.specs.Commands.{add_field, with_field, change_model, schema_after}
+use Rattle.sc_schema.specs.Commands.{add_field, with_field, schema_after}
 use Rattle.sc_schema.specs.Proper.{IsProper}
 use Rattle.sc_data.specs.declared.principals.Principal.TheVariants.{Rec}
-use Rattle.sc_data.specs.Values.{Value, Id, Ids, Nothing}
+use Rattle.sc_data.specs.Values.{Value, Id, Nothing}
 use Rattle.sc_data.specs.Database.{Slot, Record, Database, records_of, slots_of, ids_of, has_record, field_at}
 use Rattle.sc_data.proofs.Finds.{find-holds, find-last}
 use Rattle.sc_data.proofs.Lookup.{record-found}
-use Rattle.sc_eval.specs.Meaning.{id_of, same_truth, value_of, member}
+use Rattle.sc_eval.specs.Meaning.{id_of, same_truth, member}
 use Rattle.sc_eval.specs.Run.{init_value, after_command, change_slots}
 use Rattle.sc_eval.proofs.Changes.{slots-changed}
 use Rattle.sc_eval.proofs.Policies.{model-changed}
 use Rattle.sc_formula.specs.declared.structure.Structure.{Structure}
 use Rattle.sc_formula.specs.Trees.{Term}
-use Rattle.sc_formula.specs.Truth.{truth}
-use Rattle.sc_duty.specs.Cases.{Cases, at_term, among}
-use Rattle.sc_duty.specs.Formulas.{Written, with_added, written_out, nothing_written, field_cases, cases_of, is_in, record_at, init_cases}
-use Rattle.sc_duty.proofs.Means.{IsPrefix, HasType, IsTermOf, Means, Stands, stands-typed, AreTyped, term-more}
+use Rattle.sc_duty.specs.Cases.{at_term}
+use Rattle.sc_duty.specs.Formulas.{Written, with_added, written_out, nothing_written, record_at, init_cases}
+use Rattle.sc_duty.proofs.Means.{HasType, IsTermOf, Means, term-more}
 use Rattle.sc_duty.proofs.Meanings.{Shows, typed, means, in-means, id-term, own-there}
 use Rattle.sc_duty.proofs.Starting.{find-behind}
 
@@ -69,8 +68,10 @@ added-split s m0 g init m f ty h =
   where
     of : Option ModelInfo → Option TTy
     of o = option_map (λ (x : FieldInfo). x.ty) (option_and_then (λ (i : ModelInfo). field_in i.fields f) o)
+
     R : Option ModelInfo → Type 0
     R o = (of o ≡ Some ty) ⊎ ((m0 ≡ m) × (g.number ≡ f) × (g.ty ≡ ty))
+
     among-fields : (fields : List FieldInfo) → m ≡ m0 → option_map (λ (x : FieldInfo). x.ty) (field_in (fields ++ g ∷ []) f) ≡ Some ty
         → (option_map (λ (x : FieldInfo). x.ty) (field_in fields f) ≡ Some ty) ⊎ ((m0 ≡ m) × (g.number ≡ f) × (g.ty ≡ ty))
     among-fields fields same e =
@@ -86,6 +87,7 @@ added-split s m0 g init m f ty h =
                     inr (sym same, ap (λ (u : FieldInfo). u.number) (sym is) ∙ number, ap (λ (u : FieldInfo). u.ty) (sym is) ∙ one)
               ]
         ] refl e
+
     step : m ≡ m0 → (i : ModelInfo) → R (Some (with_field g i)) → R (Some i)
     step same i r =
         elim r [

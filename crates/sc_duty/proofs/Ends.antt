@@ -1,32 +1,30 @@
 -- Formulas and cases for each end of what means a value.
 use Rattle.std.proofs.Common.{◌≡◌, ℕ, suc, Bool, true, false, not, ◌||◌, List, [], ◌∷◌, length, refl, ap, sym, ◌∙◌, subst}
-use Rattle.std.specs.Prelude.{Option, Some, None, ◌==◌, nat_eq, slice_get, int_lt, option_and_then, if◌then◌else◌}
+use Rattle.std.specs.Prelude.{Option, Some, ◌==◌, nat_eq, slice_get, int_lt, option_and_then, if◌then◌else◌}
 use Rattle.std.specs.List.{list_any}
-use Rattle.std.specs.Ordering.{int_eq}
 use Rattle.std.proofs.lemmas.Bool.{eqb-true, eq-eqb, false_from_ne_true}
 use Rattle.sc_tree.specs.declared.exprs.CmpOp.{CmpOp}
 use Rattle.sc_tree.specs.declared.exprs.CmpOp.TheVariants.{Eq, Ne, Lt, Le, Gt, Ge}
 use Rattle.sc_schema.specs.declared.types.TBase.{TBase}
 use Rattle.sc_schema.specs.declared.types.TBase.TheVariants as base
 use Rattle.sc_schema.specs.declared.types.TTy.{TTy}
-use Rattle.sc_schema.specs.declared.types.TTy.TheVariants.{Plain, Set, Opt}
+use Rattle.sc_schema.specs.declared.types.TTy.TheVariants.{Plain, Set}
 use Rattle.sc_schema.specs.Schema.{Schema}
 use Rattle.sc_schema.specs.Typing.{MaySign}
-use Rattle.sc_data.specs.Values.{Value, Flag, Num, Str, Id, Ids, Nothing, Just}
-use Rattle.sc_data.specs.Database.{Database, ids_of, has_record}
-use Rattle.sc_eval.specs.Meaning.{same_truth, truth_of, number_of, set_of, are_equal, is_less, compares}
+use Rattle.sc_data.specs.Values.{Value, Flag, Id}
+use Rattle.sc_data.specs.Database.{Database, ids_of}
+use Rattle.sc_eval.specs.Meaning.{same_truth, truth_of, set_of, are_equal, is_less, compares}
 use Rattle.sc_eval.proofs.Agreement.{ap2}
 use Rattle.sc_formula.specs.declared.structure.SVal.{SVal}
-use Rattle.sc_formula.specs.declared.structure.SVal.TheVariants as sval
 use Rattle.sc_formula.specs.declared.structure.Structure.{Structure}
 use Rattle.sc_formula.specs.Trees.{Term, app, Formula, no, equal, less, flag}
 use Rattle.sc_formula.specs.Truth.{value_of, both_pass, is_true_value}
 use Rattle.sc_formula.specs.Truth as formula
-use Rattle.sc_duty.specs.Structures.{before, function_of, element_of}
+use Rattle.sc_duty.specs.Structures.{before, function_of}
 use Rattle.sc_duty.specs.Cases.{Condition, atom, chosen, same_condition, Cases, at_term, held, truth, among, none, some, choice, continued, at_ends, of_term, at_terms, end_holds, condition_of, end_has, has_term, same_term, less_term, is_truth_type, is_truth}
 use Rattle.sc_duty.specs.Cases as cases
 use Rattle.sc_duty.proofs.Signed.{same-not, atom-truth, chosen-truth}
-use Rattle.sc_duty.proofs.Means.{IsPrefix, prefix-itself, HasType, shows-truth, IsEntry, IsTermOf, IsConditionOf, AreMembers, Means, means-more}
+use Rattle.sc_duty.proofs.Means.{prefix-itself, HasType, shows-truth, IsEntry, IsTermOf, IsConditionOf, AreMembers, Means, means-more}
 
 -- an end of cases
 abbrev pub IsEnd : Cases → Type 0

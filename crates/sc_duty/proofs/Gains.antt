@@ -1,9 +1,9 @@
 -- The formula of an obligation against gains is true where somebody gains.
-use Rattle.std.proofs.Common.{◌≡◌, ℕ, zero, suc, ◌+◌, ◌-◌, ◌<◌, ◌≤◌, ◌⊎◌, Bool, true, false, not, ◌&&◌, ◌||◌, List, [], ◌∷◌, ◌++◌, length, take, refl, ap, sym, ◌∙◌, subst, arith, inl, inr}
-use Rattle.std.specs.Prelude.{Option, Some, None, ◌==◌, map, is_some, slice_get, slice_index_or, option_and_then}
+use Rattle.std.proofs.Common.{◌≡◌, ℕ, zero, suc, ◌-◌, ◌<◌, ◌≤◌, Bool, true, false, not, ◌&&◌, ◌||◌, List, [], ◌∷◌, length, take, refl, ap, sym, ◌∙◌, subst, arith, inl, inr}
+use Rattle.std.specs.Prelude.{Option, Some, None, ◌==◌, map, is_some, slice_get}
 use Rattle.std.specs.List.{list_any}
-use Rattle.std.specs.Option.{option_map, option_map_or}
-use Rattle.std.proofs.lemmas.Bool.{eqb-true, eq-eqb, false_from_ne_true}
+use Rattle.std.specs.Option.{option_map_or}
+use Rattle.std.proofs.lemmas.Bool.{eqb-true, eq-eqb}
 use Rattle.std.proofs.lemmas.Option.{slice_get_within, get_or_from_slice_get}
 use Rattle.sc_schema.specs.declared.types.TBase.TheVariants as base
 use Rattle.sc_schema.specs.declared.rights.Kind.{Kind}
@@ -11,34 +11,34 @@ use Rattle.sc_schema.specs.declared.rights.Kind.TheVariants as kind
 use Rattle.sc_schema.specs.declared.rights.Right.{Right}
 use Rattle.sc_schema.specs.declared.rights.Target.{Target}
 use Rattle.sc_schema.specs.declared.rights.Target.TheVariants as on
-use Rattle.sc_schema.specs.Trees.{Policy, Init}
-use Rattle.sc_schema.specs.Schema.{FieldInfo, ModelInfo, Schema, model_of, model_of_target}
+use Rattle.sc_schema.specs.Trees.{Policy}
+use Rattle.sc_schema.specs.Schema.{ModelInfo, Schema, model_of, model_of_target}
 use Rattle.sc_schema.specs.Typing.{HasModel}
-use Rattle.sc_schema.specs.Commands.{Command, create_model, delete_model, add_static, remove_static, add_principal, add_field, remove_field, update_field, weaken_field, update_model, weaken_model, schema_after, IsCommand}
+use Rattle.sc_schema.specs.Commands.{Command, create_model, delete_model, add_static, remove_static, add_principal, add_field, remove_field, update_field, weaken_field, update_model, weaken_model, IsCommand}
 use Rattle.sc_schema.specs.Script.{Script, schema_at, command_at, count, IsScript}
 use Rattle.sc_schema.specs.Kinds.{has_kind, same_kind, dropped_by, is_dropped, is_kind_at}
 use Rattle.sc_data.specs.declared.principals.Principal.{Principal}
 use Rattle.sc_data.specs.declared.principals.Principal.TheVariants as who
 use Rattle.sc_data.specs.Values.{Id}
-use Rattle.sc_data.specs.Database.{Slot, Record, Table, Database, ids_of, has_record, is_there}
+use Rattle.sc_data.specs.Database.{Record, Table, Database, ids_of, has_record}
 use Rattle.sc_eval.specs.Meaning.{allows, same_truth}
-use Rattle.sc_eval.specs.Run.{init_value, after_command, run_to}
-use Rattle.sc_eval.specs.Gain.{IsStart, kind_of, is_principal_at, policy_at, has_right_at, same_target, updates, GainAt}
+use Rattle.sc_eval.specs.Run.{after_command, run_to}
+use Rattle.sc_eval.specs.Gain.{IsStart, kind_of, is_principal_at, policy_at, has_right_at, updates, GainAt}
 use Rattle.sc_eval.proofs.Agreement.{ap2}
 use Rattle.sc_eval.proofs.Changes.{ids-changed, table-kept}
 use Rattle.sc_eval.proofs.Kept.{policy-typed}
 use Rattle.sc_eval.proofs.Tests.{and-left, and-right, and-both, or-left, or-right, or-true, not-true}
 use Rattle.sc_formula.specs.declared.structure.Structure.{Structure}
-use Rattle.sc_formula.specs.Trees.{Term, Formula, bound, both}
+use Rattle.sc_formula.specs.Trees.{Term, bound, both}
 use Rattle.sc_formula.specs.Truth.{truth}
 use Rattle.sc_duty.specs.declared.duty.Duty.{Duty}
-use Rattle.sc_duty.specs.Structures.{sort_of, element_of, structure_of}
+use Rattle.sc_duty.specs.Structures.{sort_of, structure_of}
 use Rattle.sc_duty.specs.Cases.{constant}
 use Rattle.sc_duty.specs.Formulas.{Who, static, record_at, nothing_written, is_allowed}
-use Rattle.sc_duty.specs.Duties.{written_at, has_right, for_some, for_some_principal, gain_formula_of}
+use Rattle.sc_duty.specs.Duties.{written_at, has_right, for_some_principal, gain_formula_of}
 use Rattle.sc_duty.specs.Gains.{IsGainDuty, GainsSomebody, GainFormulasAreTrue}
 use Rattle.sc_duty.proofs.Signed.{same-unsign, constant-truth, exists-truth}
-use Rattle.sc_duty.proofs.Means.{IsPrefix, prefix-more, IsTermOf, IsWho, term-more}
+use Rattle.sc_duty.proofs.Means.{prefix-more, IsTermOf, IsWho, term-more}
 use Rattle.sc_duty.proofs.Meanings.{Shows, next-is, allowed-means}
 use Rattle.sc_duty.proofs.Running.{model-of-field, command-there, run-after, first-shown, shown-at, model-of-start}
 

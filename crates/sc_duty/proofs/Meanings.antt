@@ -1,6 +1,6 @@
 -- Over a structure that shows a database, the cases of an expression mean its value, and the formula of a set tells who is in it.
-use Rattle.std.proofs.Common.{◌≡◌, ℕ, zero, suc, ◌+◌, Bool, true, false, not, ◌&&◌, ◌||◌, List, [], ◌∷◌, ◌++◌, length, refl, ap, sym, ◌∙◌, subst, arith, inl, inr, length-append}
-use Rattle.std.specs.Prelude.{Option, Some, None, ◌==◌, nat_eq, slice_get, if◌then◌else◌}
+use Rattle.std.proofs.Common.{◌≡◌, ℕ, zero, suc, Bool, true, false, not, ◌&&◌, ◌||◌, List, [], ◌∷◌, ◌++◌, length, refl, ap, sym, ◌∙◌, subst, arith, inl, inr, length-append}
+use Rattle.std.specs.Prelude.{Some, ◌==◌, slice_get, if◌then◌else◌}
 use Rattle.std.specs.List.{list_any}
 use Rattle.std.specs.Option.{option_map}
 use Rattle.std.proofs.lemmas.Bool.{eqb-true, eq-eqb}
@@ -15,11 +15,9 @@ use Rattle.sc_schema.specs.Schema.{Schema, type_of}
 use Rattle.sc_schema.specs.Typing.{HasModel, Scope, Content, records, principals, IsCompared, MayTest, IsExpr, IsSet, AreItems, AreFilters, IsPolicy}
 use Rattle.sc_data.specs.declared.principals.Principal.{Principal}
 use Rattle.sc_data.specs.declared.principals.Principal.TheVariants as who
-use Rattle.sc_data.specs.Values.{Value, Flag, Num, Str, Id, Ids, Nothing, Just}
+use Rattle.sc_data.specs.Values.{Value, Id, Just}
 use Rattle.sc_data.specs.Database.{Database, ids_of, field_at, has_record}
-use Rattle.sc_eval.specs.Meaning.{Env, same_truth, truth_of, id_of, set_of, are_equal, is_less, passes, taken_apart, is_record, is_among, is_static, id_of_record, value_of, member, is_listed, meets, allows}
-use Rattle.sc_eval.proofs.Agreement.{ap2}
-use Rattle.sc_formula.specs.declared.structure.SVal.{SVal}
+use Rattle.sc_eval.specs.Meaning.{Env, same_truth, truth_of, id_of, set_of, passes, taken_apart, is_record, is_among, is_static, id_of_record, value_of, member, is_listed, meets, allows}
 use Rattle.sc_formula.specs.declared.structure.SVal.TheVariants as sval
 use Rattle.sc_formula.specs.declared.structure.Structure.{Structure}
 use Rattle.sc_formula.specs.Trees.{Term, Formula, no, bound}
@@ -27,12 +25,12 @@ use Rattle.sc_formula.specs.Trees as tree
 use Rattle.sc_formula.specs.Truth.{both_pass, size_of}
 use Rattle.sc_formula.specs.Truth as formula
 use Rattle.sc_duty.specs.Structures.{sort_of, element_of}
-use Rattle.sc_duty.specs.Cases.{Condition, constant, atom, and_if, all_if, chosen, same_condition, Cases, at_term, held, truth, among, none, some, choice, continued, at_ends, of_term, at_terms, is_present, of_option, condition_of, has_term, some_of, is_truth_type, is_truth}
+use Rattle.sc_duty.specs.Cases.{Condition, constant, atom, and_if, all_if, chosen, Cases, at_term, held, truth, among, none, some, choice, continued, of_term, at_terms, is_present, of_option, condition_of, has_term, is_truth_type, is_truth}
 use Rattle.sc_duty.specs.Formulas.{Who, static, record_at, of_each_kind, of_model, Scene, Written, field_cases, cases_of, is_in, items_in, filters_at, is_allowed}
 use Rattle.sc_duty.specs.Formulas as form
 use Rattle.sc_duty.proofs.Signed.{and-assoc, same-not, same-sign, same-unsign, constant-truth, atom-truth, and-truth, or-truth, chosen-truth, exists-truth, AreAny, AreAll, any-truth, all-truth}
-use Rattle.sc_duty.proofs.Means.{IsPrefix, prefix-itself, prefix-more, prefix-along, HasType, shows-truth, truth-type, option-type, AreTyped, typed-at, typed-more, IsEntry, IsTermOf, IsConditionOf, AreMembers, HoldsField, Means, means-more, Stands, stands-at, stands-typed, stands-more, stands-and, IsWho, who-more}
-use Rattle.sc_duty.proofs.Ends.{IsEnd, ends-typed, same-element, ends-true, ends-mean, term-end, terms-true, condition-means, truth-value, not-condition, same-conditions, has-means, entries-equal, equal-means, less-means, comparison-means}
+use Rattle.sc_duty.proofs.Means.{prefix-itself, prefix-more, HasType, shows-truth, truth-type, option-type, AreTyped, typed-at, typed-more, IsTermOf, IsConditionOf, Means, Stands, stands-at, stands-typed, stands-more, stands-and, IsWho, who-more}
+use Rattle.sc_duty.proofs.Ends.{IsEnd, ends-typed, ends-true, ends-mean, term-end, terms-true, condition-means, truth-value, not-condition, same-conditions, has-means, entries-equal, equal-means, less-means, comparison-means}
 
 -- The structure, whose sorts and functions are numbered by the schema b and whose elements are the records of the database d, shows what
 -- the schema s says of the database that there is now: what a field holds, and the records of each model.
@@ -269,36 +267,57 @@ module _ (b s : Schema) (written : Written) (st : Structure) (d now : Database) 
     means (equal x y op) scope env scene xs h t e =
         let v : Value = value_of now env x in
         let w : Value = value_of now env y in
-        let ts = stands-typed b st d xs scope env scene h in
-        (e.0, refl, equal-means b st d xs e.1.0 v w (cases_of b written scene x) (cases_of b written scene y) (not-truth e.1.0 e.1.1)
-        (means x scope env scene xs h (Plain e.1.0) e.1.2) (typed b s written shows.types x scope scene ts (Plain e.1.0) e.1.2)
-        (means y scope env scene xs h (Plain e.1.0) e.1.3) (typed b s written shows.types y scope scene ts (Plain e.1.0) e.1.3))
-    means (iff x y op) scope env scene xs h t e =
-        (e.0, refl, same-conditions b st d xs (truth_of (value_of now env x)) (truth_of (value_of now env y))
-        (condition_of b (cases_of b written scene x)) (condition_of b (cases_of b written scene y))
-        (holds x scope env scene xs h e.1 (means x scope env scene xs h (Plain base.Bool) e.1)) (holds y scope env scene xs h e.2 (means y scope env scene xs h (Plain base.Bool) e.2)))
+        let ts = stands-typed b st d xs scope env scene h in (
+          e.0,
+          refl,
+          equal-means b st d xs e.1.0 v w (cases_of b written scene x) (cases_of b written scene y) (not-truth e.1.0 e.1.1)
+              (means x scope env scene xs h (Plain e.1.0) e.1.2) (typed b s written shows.types x scope scene ts (Plain e.1.0) e.1.2)
+              (means y scope env scene xs h (Plain e.1.0) e.1.3) (typed b s written shows.types y scope scene ts (Plain e.1.0) e.1.3),
+        )
+    means (iff x y op) scope env scene xs h t e = (
+      e.0,
+      refl,
+      same-conditions b st d xs (truth_of (value_of now env x)) (truth_of (value_of now env y))
+          (condition_of b (cases_of b written scene x)) (condition_of b (cases_of b written scene y))
+          (holds x scope env scene xs h e.1 (means x scope env scene xs h (Plain base.Bool) e.1)) (holds y scope env scene xs h e.2 (means y scope env scene xs h (Plain base.Bool) e.2)),
+    )
     means (less x y op) scope env scene xs h t e =
-        let ts = stands-typed b st d xs scope env scene h in
-        (e.0, refl, less-means b st d xs (value_of now env x) (value_of now env y) (cases_of b written scene x) (cases_of b written scene y)
-        (means x scope env scene xs h (Plain base.Int) e.1) (typed b s written shows.types x scope scene ts (Plain base.Int) e.1)
-        (means y scope env scene xs h (Plain base.Int) e.2) (typed b s written shows.types y scope scene ts (Plain base.Int) e.2))
-    means (within x m set) scope env scene xs h t e = (e.0, refl, λ zs q sign.
-        let v : Value = value_of now env x in
-        let more = stands-more b st d xs zs scope env scene q h in
-        terms-true b st d zs (base.Id m) v (λ u. is_in b written scene set (record_at m u) sign (length zs))
-        (same_truth sign (member now env set (who.Rec m (id_of v)))) refl
-        (λ u it. in-means set scope env scene zs more (records m) e.2 (who.Rec m (id_of v)) (record_at m u)
-        (refl, id-term m zs v u it) sign)
-        (cases_of b written scene x) (means x scope env scene zs more (Plain (base.Id m)) e.1)
-        (typed b s written shows.types x scope scene (stands-typed b st d zs scope env scene more) (Plain (base.Id m)) e.1))
+        let ts = stands-typed b st d xs scope env scene h in (
+          e.0,
+          refl,
+          less-means b st d xs (value_of now env x) (value_of now env y) (cases_of b written scene x) (cases_of b written scene y)
+              (means x scope env scene xs h (Plain base.Int) e.1) (typed b s written shows.types x scope scene ts (Plain base.Int) e.1)
+              (means y scope env scene xs h (Plain base.Int) e.2) (typed b s written shows.types y scope scene ts (Plain base.Int) e.2),
+        )
+    means (within x m set) scope env scene xs h t e = (
+      e.0,
+      refl,
+      λ zs q sign.
+          let v : Value = value_of now env x in
+          let more = stands-more b st d xs zs scope env scene q h in
+          terms-true b st d zs (base.Id m) v (λ u. is_in b written scene set (record_at m u) sign (length zs))
+          (same_truth sign (member now env set (who.Rec m (id_of v)))) refl
+          (λ u it. in-means set scope env scene zs more (records m) e.2 (who.Rec m (id_of v)) (record_at m u)
+          (refl, id-term m zs v u it) sign)
+          (cases_of b written scene x) (means x scope env scene zs more (Plain (base.Id m)) e.1)
+          (typed b s written shows.types x scope scene (stands-typed b st d zs scope env scene more) (Plain (base.Id m)) e.1),
+    )
     means (negation x) scope env scene xs h t e =
         (e.0, refl, not-condition b st d xs (truth_of (value_of now env x)) (condition_of b (cases_of b written scene x)) (holds x scope env scene xs h e.1 (means x scope env scene xs h (Plain base.Bool) e.1)))
-    means (both x y) scope env scene xs h t e = (e.0, refl, λ zs q sign.
-        and-truth st zs sign (condition_of b (cases_of b written scene x) sign (length zs)) (condition_of b (cases_of b written scene y) sign (length zs)) (truth_of (value_of now env x)) (truth_of (value_of now env y))
-        (holds x scope env scene xs h e.1 (means x scope env scene xs h (Plain base.Bool) e.1) zs q sign) (holds y scope env scene xs h e.2 (means y scope env scene xs h (Plain base.Bool) e.2) zs q sign))
-    means (either x y) scope env scene xs h t e = (e.0, refl, λ zs q sign.
-        or-truth st zs sign (condition_of b (cases_of b written scene x) sign (length zs)) (condition_of b (cases_of b written scene y) sign (length zs)) (truth_of (value_of now env x)) (truth_of (value_of now env y))
-        (holds x scope env scene xs h e.1 (means x scope env scene xs h (Plain base.Bool) e.1) zs q sign) (holds y scope env scene xs h e.2 (means y scope env scene xs h (Plain base.Bool) e.2) zs q sign))
+    means (both x y) scope env scene xs h t e = (
+      e.0,
+      refl,
+      λ zs q sign.
+          and-truth st zs sign (condition_of b (cases_of b written scene x) sign (length zs)) (condition_of b (cases_of b written scene y) sign (length zs)) (truth_of (value_of now env x)) (truth_of (value_of now env y))
+          (holds x scope env scene xs h e.1 (means x scope env scene xs h (Plain base.Bool) e.1) zs q sign) (holds y scope env scene xs h e.2 (means y scope env scene xs h (Plain base.Bool) e.2) zs q sign),
+    )
+    means (either x y) scope env scene xs h t e = (
+      e.0,
+      refl,
+      λ zs q sign.
+          or-truth st zs sign (condition_of b (cases_of b written scene x) sign (length zs)) (condition_of b (cases_of b written scene y) sign (length zs)) (truth_of (value_of now env x)) (truth_of (value_of now env y))
+          (holds x scope env scene xs h e.1 (means x scope env scene xs h (Plain base.Bool) e.1) zs q sign) (holds y scope env scene xs h e.2 (means y scope env scene xs h (Plain base.Bool) e.2) zs q sign),
+    )
     means (if_expr c x y) scope env scene xs h t e = (
       truth_of (value_of now env c),
       holds c scope env scene xs h e.0 (means c scope env scene xs h (Plain base.Bool) e.0),

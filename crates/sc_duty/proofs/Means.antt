@@ -1,6 +1,6 @@
 -- Which cases mean a value over a structure that shows a database, where the variables of the quantifiers above have these elements.
 use Rattle.std.proofs.Common.{◌≡◌, ℕ, zero, suc, Bool, true, false, List, [], ◌∷◌, ◌++◌, length, refl, ap, sym, ◌∙◌, subst, ◌⊎◌, inl, inr}
-use Rattle.std.specs.Prelude.{Option, Some, None, ℤ, ◌==◌, slice_get, slice_index_or}
+use Rattle.std.specs.Prelude.{Option, Some, ℤ, ◌==◌, slice_get, slice_index_or}
 use Rattle.std.specs.List.{list_any}
 use Rattle.std.specs.Option.{option_map_or}
 use Rattle.std.proofs.lemmas.List.{append_assoc, append-nil}

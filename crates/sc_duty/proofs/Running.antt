@@ -1,6 +1,6 @@
 -- The structure of a start database shows what the database is after each command.
 use Rattle.std.proofs.Common.{◌≡◌, ℕ, zero, suc, ◌+◌, ◌-◌, ◌<◌, ◌≤◌, Bool, true, false, not, List, [], ◌∷◌, ◌++◌, length, ◌⊎◌, refl, ap, sym, ◌∙◌, subst, arith, cond, inl, inr}
-use Rattle.std.specs.Prelude.{Option, Some, None, map, filter, ◌==◌, is_some, IsTrue, slice_get, option_and_then}
+use Rattle.std.specs.Prelude.{Option, Some, None, map, filter, ◌==◌, is_some, slice_get, option_and_then}
 use Rattle.std.specs.List.{find, list_any, AllByRecursion}
 use Rattle.std.specs.Option.{option_map, option_map_or}
 use Rattle.std.proofs.lemmas.Bool.{eqb-true, eq-eqb, false_from_ne_true}
@@ -13,7 +13,7 @@ use Rattle.sc_schema.specs.Schema.{FieldInfo, ModelInfo, Added, Schema, model_in
 use Rattle.sc_schema.specs.Typing.{HasModel, IsInit, IsType}
 use Rattle.sc_schema.specs.Commands.{Command, create_model, delete_model, add_static, remove_static, add_principal, add_field, remove_field, update_field, weaken_field, update_model, weaken_model, change_model, with_field, without_field, with_field_policies, with_model_policies, schema_after, AreNumberedFrom, IsCommand}
 use Rattle.sc_schema.specs.Proper.{AreProperFields, IsProper}
-use Rattle.sc_schema.specs.Script.{Script, schema_at, command_at, count, closed_field, closed_model, created_by, created, start_of, IsScript}
+use Rattle.sc_schema.specs.Script.{Script, schema_at, command_at, count, closed_field, closed_model, created_by, created, IsScript}
 use Rattle.sc_data.specs.Values.{Value, Nothing}
 use Rattle.sc_data.specs.Database.{Slot, Record, Table, Database, table_of, records_of, slots_of, ids_of, has_record, field_at, AreSlots, IsRecordIn, HasTable, IsDatabase}
 use Rattle.sc_data.proofs.Finds.{find-holds, find-among, find-none, find-map, find-last}
@@ -472,9 +472,9 @@ type-split s info m f ty h =
           elim (find-last (λ (u : ModelInfo). u.number == m) s.models info i here) [
             | inl before ↦ inl (ap of before ∙ e)
             | inr same ↦ inr (
-                ap (λ (u : ModelInfo). u.number) (sym same) ∙ number,
-                ap (λ (u : ModelInfo). option_map (λ (g : FieldInfo). g.ty) (field_in u.fields f)) (sym same) ∙ e,
-              )
+              ap (λ (u : ModelInfo). u.number) (sym same) ∙ number,
+              ap (λ (u : ModelInfo). option_map (λ (g : FieldInfo). g.ty) (field_in u.fields f)) (sym same) ∙ e,
+            )
           ]
     ] refl h
 
@@ -650,8 +650,7 @@ module _ (t : Script) (is : IsScript t) (d : Database) (start : IsStart t d) whe
     new-shown typed =
         let cases : (u : Term) → field_cases t.start with_it m0 g.number u ≡ init_cases t.start before_it init u
         = λ u. ap (λ b. option_map_or (λ (at : Term → Cases). at u) (cond b (Some (init_cases t.start before_it init)) (before_it m0 g.number)) (held m0 g.number u))
-        (both-same m0 m0 g.number g.number refl refl) in
-        (
+        (both-same m0 m0 g.number g.number refl refl) in (
           λ xs v u it.
               let at = it xs (prefix-itself xs) in
               let there : has_record now m0 (id_of v) ≡ true

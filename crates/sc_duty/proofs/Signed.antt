@@ -1,7 +1,7 @@
 -- What the formulas of a condition and of its negation are true of.
-use Rattle.std.proofs.Common.{◌≡◌, ℕ, zero, suc, ◌+◌, Bool, true, false, not, ◌&&◌, ◌||◌, List, [], ◌∷◌, ◌++◌, length, refl, ap, sym, ◌∙◌, arith}
-use Rattle.std.specs.Prelude.{Option, Some, None, slice_get, fold, unwrap_or}
-use Rattle.std.specs.List.{list_any, list_all, range_with_len, reduce}
+use Rattle.std.proofs.Common.{◌≡◌, ℕ, suc, ◌+◌, Bool, true, false, not, ◌&&◌, ◌||◌, List, [], ◌∷◌, ◌++◌, length, refl, ap, sym, ◌∙◌, arith}
+use Rattle.std.specs.Prelude.{Some, slice_get, fold}
+use Rattle.std.specs.List.{list_any, list_all, range_with_len}
 use Rattle.sc_eval.specs.Meaning.{same_truth}
 use Rattle.sc_eval.proofs.Agreement.{ap2}
 use Rattle.sc_formula.specs.declared.structure.Structure.{Structure}

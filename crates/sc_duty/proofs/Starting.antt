@@ -1,6 +1,6 @@
 -- The structure of a database shows what its schema says of it.
 use Rattle.std.proofs.Common.{◌≡◌, ℕ, zero, suc, ◌+◌, ◌<◌, Bool, true, false, not, ◌&&◌, ◌||◌, List, [], ◌∷◌, ◌++◌, length, refl, ap, sym, ◌∙◌, subst, arith, cond, inl, inr}
-use Rattle.std.specs.Prelude.{Option, Some, None, map, filter, ◌==◌, nat_eq, is_some, IsTrue, slice_get, slice_index, slice_index_or, option_and_then, if◌then◌else◌}
+use Rattle.std.specs.Prelude.{Option, Some, None, map, filter, ◌==◌, nat_eq, is_some, slice_get, slice_index, slice_index_or, option_and_then}
 use Rattle.std.specs.List.{find, list_any, flat_map}
 use Rattle.std.specs.List.Sorted.{IsStrictlyIncreasing}
 use Rattle.std.specs.Option.{option_map, option_map_or}
@@ -13,25 +13,23 @@ use Rattle.sc_schema.specs.declared.types.TTy.TheVariants.{Plain, Set, Opt}
 use Rattle.sc_schema.specs.Schema.{FieldInfo, ModelInfo, Schema, model_in, field_in, model_of, field_of, type_of}
 use Rattle.sc_schema.specs.Typing.{HasModel}
 use Rattle.sc_schema.specs.Proper.{model_numbers}
-use Rattle.sc_data.specs.Values.{Value, Flag, Num, Str, Id, Ids, Nothing, Just, IsBaseValueOf, IsValueOf, ids_in}
-use Rattle.sc_data.specs.Database.{Record, Table, Database, table_of, records_of, ids_of, field_at, has_record, AreThere, IsBaseIntact, IsIntact, HasTable, IsDatabase}
+use Rattle.sc_data.specs.Values.{Value, Id, Ids, IsBaseValueOf, ids_in}
+use Rattle.sc_data.specs.Database.{Record, Table, Database, table_of, ids_of, field_at, has_record, AreThere, IsBaseIntact, HasTable, IsDatabase}
 use Rattle.sc_data.proofs.Finds.{find-holds, find-among}
 use Rattle.sc_data.proofs.Lookup.{typed}
 use Rattle.sc_eval.specs.Meaning.{id_of, set_of, same_truth}
 use Rattle.sc_eval.proofs.Agreement.{ap2}
 use Rattle.sc_eval.proofs.Kept.{found-field}
 use Rattle.sc_formula.specs.declared.structure.SVal.{SVal}
-use Rattle.sc_formula.specs.declared.structure.SVal.TheVariants as sval
 use Rattle.sc_formula.specs.declared.structure.Structure.{Structure}
-use Rattle.sc_formula.specs.Trees.{Term, app, has, present}
-use Rattle.sc_formula.specs.Truth.{value_of, element_of, entry, entry_at, relates, both_pass, size_of}
-use Rattle.sc_formula.specs.Truth as formula
+use Rattle.sc_formula.specs.Trees.{Term, has, present}
+use Rattle.sc_formula.specs.Truth.{element_of, entry, entry_at, relates, both_pass, size_of}
 use Rattle.sc_duty.specs.Structures.{before, Place, places_in, is_set, functions_of, relations_of, is_place, sort_of, function_of, relation_of, base_target, target_of, entry_of, entries_of, pairs_of, structure_of}
 use Rattle.sc_duty.specs.Structures as structure
 use Rattle.sc_duty.specs.Cases.{is_truth_type}
 use Rattle.sc_duty.specs.Formulas.{nothing_written}
-use Rattle.sc_duty.proofs.Signed.{atom-truth, or-false}
-use Rattle.sc_duty.proofs.Means.{IsPrefix, prefix-itself, HasType, IsEntry, IsTermOf, IsConditionOf, AreMembers, Means}
+use Rattle.sc_duty.proofs.Signed.{atom-truth}
+use Rattle.sc_duty.proofs.Means.{IsPrefix, prefix-itself, IsEntry, IsTermOf, Means}
 use Rattle.sc_duty.proofs.Ends.{same-element}
 use Rattle.sc_duty.proofs.Meanings.{Shows}
 
@@ -286,9 +284,9 @@ module _ (s : Schema) (d : Database) (is : IsDatabase s d) where
       let there : has_record d m (id_of v) ≡ true = ap (has_record d m) (ap id_of at.1) ∙ at.2 in
       let intact : (x : ℕ) → has_record d m x ≡ true → AreThere d n (set_of (field_at d m x f))
       = λ x here.
-          let one = typed s d is m f x (Set n) h here in
-          let value : field_at d m x f ≡ Ids one.0.0 = one.0.1 in
-          subst (λ (w : Value). AreThere d n (set_of w)) (sym value) (subst (λ (w : Value). AreThere d n (ids_in w)) value one.1) in
+      let one = typed s d is m f x (Set n) h here in
+      let value : field_at d m x f ≡ Ids one.0.0 = one.0.1 in
+      subst (λ (w : Value). AreThere d n (set_of w)) (sym value) (subst (λ (w : Value). AreThere d n (ids_in w)) value one.1) in
       λ zs q i w other sign.
       let a = it zs q in
       let c = other zs (prefix-itself zs) in
@@ -308,9 +306,12 @@ module _ (s : Schema) (d : Database) (is : IsDatabase s d) where
       let entry-is : (zs : List ℕ) → IsPrefix xs zs → entry_at st zs g u ≡ entry_of d (base_target p) w
       = λ zs q. at-record m xs v u it g zs q ∙ function-entry m f (Opt p) (placed s m f (Opt p) h) refl (id_of v) there in
       elim held.0 [
-        | inl none ↦ inl (none, λ zs q sign.
-            atom-truth st zs sign (present g u)
-            ∙ ap (same_truth sign) (ap is_some (entry-is zs q) ∙ ap (λ x. is_some (entry_of d (base_target p) x)) none))
+        | inl none ↦ inl (
+          none,
+          λ zs q sign.
+              atom-truth st zs sign (present g u)
+              ∙ ap (same_truth sign) (ap is_some (entry-is zs q) ∙ ap (λ x. is_some (entry_of d (base_target p) x)) none),
+        )
         | inr some ↦
             let intact : IsBaseIntact d p (ids_in some.0) = subst (λ (x : Value). IsBaseIntact d p (ids_in x)) some.1 held.1 in
             let one = entry-shown p some.0 some.2 intact in

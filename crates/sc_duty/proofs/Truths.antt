@@ -1,6 +1,6 @@
 -- The formulas of conditions and policies tell what they mean on a database.
-use Rattle.std.proofs.Common.{◌≡◌, ℕ, true, List, [], ◌∷◌, ◌++◌, length, refl, ap}
-use Rattle.std.specs.Prelude.{Some, slice_get}
+use Rattle.std.proofs.Common.{◌≡◌, ℕ, true, List, [], ◌∷◌, refl, ap}
+use Rattle.std.specs.Prelude.{slice_get}
 use Rattle.std.specs.Option.{option_map}
 use Rattle.sc_schema.specs.declared.types.TBase.TheVariants as base
 use Rattle.sc_schema.specs.declared.types.TTy.TheVariants.{Plain}
@@ -8,7 +8,7 @@ use Rattle.sc_schema.specs.Schema.{Schema}
 use Rattle.sc_data.specs.declared.principals.Principal.{Principal}
 use Rattle.sc_data.specs.declared.principals.Principal.TheVariants.{Static, Rec}
 use Rattle.sc_data.specs.Values.{Id}
-use Rattle.sc_data.specs.Database.{Database, has_record, is_there, IsDatabase}
+use Rattle.sc_data.specs.Database.{Database, has_record, is_there}
 use Rattle.sc_eval.specs.Meaning.{value_of}
 use Rattle.sc_formula.specs.declared.structure.SVal.TheVariants as sval
 use Rattle.sc_formula.specs.declared.structure.Structure.{Structure}

@@ -1,5 +1,5 @@
 -- The obligations of a script, in their order, and the formula of each.
-use Rattle.std.specs.Prelude.{ℕ, ◌+◌, ◌-◌, true, false, not, List, [], ◌∷◌, ◌++◌, map, flat_map, length, Option, None, Some, slice_get}
+use Rattle.std.specs.Prelude.{ℕ, ◌+◌, ◌-◌, true, false, not, List, [], ◌++◌, map, flat_map, length, Option, None, Some, slice_get}
 use Rattle.std.specs.List.{range_with_len}
 use Rattle.std.specs.Option.{option_map_or}
 use Rattle.sc_schema.specs.declared.rights.Kind.{Kind}
@@ -9,7 +9,7 @@ use Rattle.sc_schema.specs.declared.rights.Right.TheVariants.{Read, Write, Creat
 use Rattle.sc_schema.specs.declared.rights.Target.{Target}
 use Rattle.sc_schema.specs.declared.rights.Target.TheVariants as on
 use Rattle.sc_schema.specs.Trees.{Policy, Init}
-use Rattle.sc_schema.specs.Schema.{Schema, model_of_target}
+use Rattle.sc_schema.specs.Schema.{model_of_target}
 use Rattle.sc_schema.specs.Commands.{Command, create_model, delete_model, add_static, remove_static, add_principal, add_field, remove_field, update_field, weaken_field, update_model, weaken_model}
 use Rattle.sc_schema.specs.Uses.{Use, init_uses_of}
 use Rattle.sc_schema.specs.Script.{Script, schema_at, command_at, count}

@@ -9,7 +9,7 @@ use Rattle.sc_eval.specs.Meaning.{same_truth}
 use Rattle.sc_formula.specs.Trees.{Term, Formula}
 use Rattle.sc_formula.specs.Trees as formula
 use Rattle.sc_duty.specs.Structures.{sort_of}
-use Rattle.sc_duty.specs.Cases.{Condition, constant, atom, and_if, or_if, exists_if, all_if, any_if, chosen, same_condition, Cases, at_term, held, truth, among, none, some, choice, continued, at_ends, of_term, at_terms, of_option, condition_of, has_term, same_term, less_term, some_of, compared}
+use Rattle.sc_duty.specs.Cases.{Condition, constant, atom, and_if, or_if, exists_if, all_if, any_if, chosen, same_condition, Cases, at_term, held, truth, among, none, choice, continued, at_ends, of_term, at_terms, of_option, condition_of, has_term, same_term, less_term, some_of, compared}
 
 -- Whom a set is asked about: a static principal, or the record of a model that a term is. Sizes ask about a term that is of each kind.
 pub data Who : Type 0 where

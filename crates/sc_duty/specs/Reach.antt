@@ -1,15 +1,15 @@
 -- When the value of an initialiser, at a record, is read from a field of another record by one of its uses of fields.
-use Rattle.std.specs.Prelude.{ℕ, suc, ◌-◌, true, false, not, ◌∷◌, ◌++◌, [], length, nat_lt, if◌then◌else◌}
+use Rattle.std.specs.Prelude.{ℕ, suc, ◌-◌, true, false, ◌∷◌, ◌++◌, [], length, nat_lt, if◌then◌else◌}
 use Rattle.sc_tree.specs.declared.exprs.CmpOp.{CmpOp}
 use Rattle.sc_tree.specs.declared.exprs.CmpOp.TheVariants.{Eq, Ne, Lt, Le, Gt, Ge}
 use Rattle.sc_schema.specs.Trees.{Expr, flag, num, str, var, nothing, just, get, equal, iff, less, within, negation, both, either, if_expr, match_expr, SetExpr, everyone, nobody, listed, union, minus, find, path, mapped, flat_mapped, if_set, match_set, Items, no_items, static_item, record_item, Filters, no_filters, filter_and, Init, plain, of_set}
 use Rattle.sc_schema.specs.Schema.{Schema}
-use Rattle.sc_schema.specs.Uses.{uses_of, set_uses_of, item_uses_of, filter_uses_of}
+use Rattle.sc_schema.specs.Uses.{uses_of, set_uses_of}
 use Rattle.sc_formula.specs.Trees.{Term, Formula, yes, no}
 use Rattle.sc_formula.specs.Trees as formula
 use Rattle.sc_duty.specs.Structures.{sort_of}
 use Rattle.sc_duty.specs.Cases.{Cases, at_term, held, truth, among, none, some, choice, at_ends, at_terms, is_present, condition_of}
-use Rattle.sc_duty.specs.Formulas.{Who, record_at, Scene, Written, cases_of, is_in, next_variable}
+use Rattle.sc_duty.specs.Formulas.{record_at, Scene, Written, cases_of, is_in, next_variable}
 
 -- the use of this number, where so many stand in the first part and the rest in the second
 abbrev pub in_parts : {A : Type 0} → ℕ → (ℕ → A) → (ℕ → A) → ℕ → A

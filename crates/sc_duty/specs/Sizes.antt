@@ -4,7 +4,7 @@ use Rattle.std.specs.List.{range_with_len}
 use Rattle.sc_schema.specs.declared.types.TBase.TheVariants as base
 use Rattle.sc_schema.specs.declared.types.TTy.{TTy}
 use Rattle.sc_schema.specs.declared.types.TTy.TheVariants.{Plain, Set, Opt}
-use Rattle.sc_schema.specs.Trees.{Policy, to_all, to_none, by_record, Init, plain, of_set}
+use Rattle.sc_schema.specs.Trees.{Policy, Init, plain, of_set}
 use Rattle.sc_schema.specs.Schema.{Schema}
 use Rattle.sc_schema.specs.Uses.{init_uses_of}
 use Rattle.sc_formula.specs.Trees.{Term, bound, num, str, app, Formula, yes, no, equal, less, has, flag, present, negation, both, either, exists, forall}

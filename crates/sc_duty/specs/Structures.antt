@@ -1,5 +1,5 @@
 -- The signature of a schema, and the structure of a database over it.
-use Rattle.std.specs.Prelude.{ℕ, zero, suc, Bool, true, false, not, ◌&&◌, ◌==◌, List, [], ◌∷◌, map, filter, length, Option, None, Some, if◌then◌else◌}
+use Rattle.std.specs.Prelude.{ℕ, suc, Bool, true, false, not, ◌&&◌, ◌==◌, List, [], ◌∷◌, map, filter, length, Option, None, Some, if◌then◌else◌}
 use Rattle.std.specs.List.{flat_map}
 use Rattle.sc_schema.specs.declared.types.TBase.{TBase}
 use Rattle.sc_schema.specs.declared.types.TBase.TheVariants as base

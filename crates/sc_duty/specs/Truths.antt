@@ -10,7 +10,7 @@ use Rattle.sc_data.specs.declared.principals.Principal.TheVariants.{Static, Rec}
 use Rattle.sc_data.specs.Values.{Id}
 use Rattle.sc_data.specs.Database.{Database, has_record, is_there, IsDatabase}
 use Rattle.sc_eval.specs.Meaning.{same_truth, truth_of, value_of, allows}
-use Rattle.sc_formula.specs.Trees.{Term, bound}
+use Rattle.sc_formula.specs.Trees.{bound}
 use Rattle.sc_formula.specs.Truth.{truth}
 use Rattle.sc_duty.specs.Structures.{sort_of, element_of, structure_of}
 use Rattle.sc_duty.specs.Cases.{at_term, condition_of}

@@ -1,6 +1,6 @@
 -- Worked formulas and sizes, over the users of the worked values: email, age, isAdmin, secret and manager, in this order.
-use Rattle.std.specs.Prelude.{◌≡◌, ℕ, zero, suc, pos, true, false, List, [], ◌∷◌, Option, None, Some, codes}
-use Rattle.sc_tree.specs.declared.exprs.CmpOp.TheVariants.{Eq, Gt, Ge}
+use Rattle.std.specs.Prelude.{◌≡◌, ℕ, zero, suc, pos, true, false, List, [], ◌∷◌, None, Some, codes}
+use Rattle.sc_tree.specs.declared.exprs.CmpOp.TheVariants.{Eq, Ge}
 use Rattle.sc_tree.specs.declared.exprs.FilterOp.TheVariants.{Cmp}
 use Rattle.sc_schema.specs.declared.types.TBase.TheVariants as base
 use Rattle.sc_schema.specs.declared.types.TTy.{TTy}
@@ -9,20 +9,18 @@ use Rattle.sc_schema.specs.declared.rights.Kind.TheVariants as kind
 use Rattle.sc_schema.specs.declared.rights.Right.{Right}
 use Rattle.sc_schema.specs.declared.rights.Right.TheVariants.{Read, Write}
 use Rattle.sc_schema.specs.declared.rights.Target.TheVariants as on
-use Rattle.sc_schema.specs.Trees.{Expr, flag, num, var, nothing, just, get, iff, match_expr, SetExpr, everyone, listed, minus, find, path, mapped, flat_mapped, if_set, match_set, no_items, static_item, record_item, no_filters, filter_and, Policy, to_all, to_none, by_record, Init, plain, of_set}
+use Rattle.sc_schema.specs.Trees.{Expr, num, var, just, get, iff, SetExpr, listed, minus, find, path, mapped, match_set, no_items, static_item, record_item, no_filters, filter_and, to_all, to_none, by_record, plain, of_set}
 use Rattle.sc_schema.specs.Schema.{FieldInfo, Schema}
-use Rattle.sc_schema.specs.Commands.{Command, add_field, remove_field, update_field, schema_after}
+use Rattle.sc_schema.specs.Commands.{Command, add_field, update_field, schema_after}
 use Rattle.sc_schema.specs.Script.{Script}
-use Rattle.sc_data.specs.Values.{Flag}
 use Rattle.sc_eval.specs.Worked as worked
 use Rattle.sc_formula.specs.declared.structure.SVal.TheVariants as sval
-use Rattle.sc_formula.specs.declared.structure.Structure.{Structure}
 use Rattle.sc_formula.specs.Trees.{Term, Formula, yes, no, bound, app}
 use Rattle.sc_formula.specs.Trees as formula
 use Rattle.sc_formula.specs.Truth.{truth}
 use Rattle.sc_duty.specs.declared.duty.Duty.{Duty}
 use Rattle.sc_duty.specs.Structures.{function_of, structure_of}
-use Rattle.sc_duty.specs.Formulas.{record_at, nothing_written, written_out, is_allowed}
+use Rattle.sc_duty.specs.Formulas.{record_at, nothing_written, is_allowed}
 use Rattle.sc_duty.specs.Duties.{obligations_of, formula_of}
 use Rattle.sc_duty.specs.Sizes.{policy_size, init_size}
 
@@ -110,9 +108,9 @@ widened = script_of (update_field 0 0 None (Some to_all) ∷ [])
 -- a field level is added, and the read policy of secret becomes User::Find({level >= 2})
 abbrev pub leveled : Script
 leveled = script_of (
-  add_field 0 (open_field 7 (codes "level") (Plain base.Int)) worked.level
-  ∷ read_by 3 (find 0 (filter_and 7 (Cmp Ge) (num (pos 2)) no_filters)) ∷ []
-)
+    add_field 0 (open_field 7 (codes "level") (Plain base.Int)) worked.level
+    ∷ read_by 3 (find 0 (filter_and 7 (Cmp Ge) (num (pos 2)) no_filters)) ∷ []
+    )
 
 -- a public field peers is added: the users above 25
 abbrev pub peers : Script
