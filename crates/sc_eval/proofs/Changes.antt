@@ -5,7 +5,7 @@ use Rattle.std.specs.List.{find}
 use Rattle.std.specs.Option.{option_map, option_map_or}
 use Rattle.std.proofs.lemmas.Bool.{eqb-true, false_from_ne_true}
 use Rattle.sc_data.specs.Values.{Value, Nothing}
-use Rattle.sc_data.specs.Database.{Slot, Record, Table, Database, table_of, records_of, ids_of, field_at}
+use Rattle.sc_data.specs.Database.{Slot, Record, Table, Database, table_of, records_of, slots_of, ids_of, field_at}
 use Rattle.sc_eval.specs.Run.{change_slots}
 use Rattle.sc_data.proofs.Finds.{find-holds, find-map, find-filter, map-none}
 
@@ -61,6 +61,22 @@ module _ (m : ℕ) (change : Record → List Slot) where
 
   pub ids-changed : (d : Database) (n : ℕ) → ids_of (change_slots m change d) n ≡ ids_of d n
   ids-changed d n = ap (map (λ (r : Record). r.id)) (records-changed d n) ∙ same-ids n (records_of d n)
+
+  -- the slots of a record
+  pub slots-changed : (d : Database) (n id : ℕ) → slots_of (change_slots m change d) n id
+      ≡ option_map_or (λ (r : Record). if n == m then change r else r.slots) (find (λ (r : Record). r.id == id) (records_of d n)) []
+  slots-changed d n id =
+      ap (λ rs. option_map_or (λ (r : Record). r.slots) (find (λ (r : Record). r.id == id) rs) []) (records-changed d n)
+      ∙ ap (λ o. option_map_or (λ (r : Record). r.slots) o []) (find-map (λ (r : Record). r.id == id) (new_at n) (records_of d n) (same-id n id))
+      ∙ (elim (find (λ (r : Record). r.id == id) (records_of d n)) as (λ (o : Option Record).
+      option_map_or (λ (r : Record). r.slots) (option_map (new_at n) o) [] ≡ option_map_or (λ (r : Record). if n == m then change r else r.slots) o []) [
+        | None ↦ refl
+        | Some r ↦
+            elim (n == m) as (λ (b : Bool). (let u : Record = if b then new_record r else r in u.slots) ≡ (if b then change r else r.slots)) [
+              | true ↦ refl
+              | false ↦ refl
+            ]
+      ])
 
   -- the value of a field that the change leaves as it is
   pub field-kept : (d : Database) (n id g : ℕ)

@@ -128,7 +128,7 @@ model-typed : (s : Schema) (m : ℕ) (i : ModelInfo) → IsTyped s → model_of 
 model-typed s m i typed h =
     (find-among (IsModel s) (λ (u : ModelInfo). u.number == m) s.models i typed h, eqb-true _ _ (find-holds (λ (u : ModelInfo). u.number == m) s.models i h))
 
-field-typed : (s : Schema) (m f : ℕ) (g : FieldInfo) → IsTyped s → field_of s m f ≡ Some g → IsField s m g
+pub field-typed : (s : Schema) (m f : ℕ) (g : FieldInfo) → IsTyped s → field_of s m f ≡ Some g → IsField s m g
 field-typed s m f g typed h =
     let there = found-field s m f g h in
     let model = model-typed s m there.model typed there.found in

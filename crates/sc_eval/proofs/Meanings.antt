@@ -61,7 +61,7 @@ deleted s m = find-none (λ (i : ModelInfo). i.number == m) (λ (i : ModelInfo).
 
 -- ---- agreement
 
-agree-added : (s : Schema) (m : ℕ) (f : FieldInfo) (init : Init) (d : Database) → IsProper s → f.number ≡ s.next_field → Agree s (after_command (add_field m f init) d) d
+pub agree-added : (s : Schema) (m : ℕ) (f : FieldInfo) (init : Init) (d : Database) → IsProper s → f.number ≡ s.next_field → Agree s (after_command (add_field m f init) d) d
 agree-added s m f init d proper number = record {
   fields = λ n g id t h.
       let there = has-field s n g t h in
@@ -72,7 +72,7 @@ agree-added s m f init d proper number = record {
   models = λ n h. ids-changed m (λ (r : Record). r.slots ++ (record { field = f.number; value = init_value d init r.id }) ∷ []) d n;
 }
 
-agree-removed : (s : Schema) (m f : ℕ) (d : Database) → Agree (schema_after s (remove_field m f)) (after_command (remove_field m f) d) d
+pub agree-removed : (s : Schema) (m f : ℕ) (d : Database) → Agree (schema_after s (remove_field m f)) (after_command (remove_field m f) d) d
 agree-removed s m f d = record {
   fields = λ n g id t h.
       let there = has-field (schema_after s (remove_field m f)) n g t h in
@@ -87,7 +87,7 @@ agree-removed s m f d = record {
   models = λ n h. ids-changed m (λ (r : Record). filter (λ (slot : Slot). not (slot.field == f)) r.slots) d n;
 }
 
-agree-deleted : (s : Schema) (m : ℕ) (d : Database) → Agree (schema_after s (delete_model m)) (after_command (delete_model m) d) d
+pub agree-deleted : (s : Schema) (m : ℕ) (d : Database) → Agree (schema_after s (delete_model m)) (after_command (delete_model m) d) d
 agree-deleted s m d = record {
   fields = λ n g id t h.
       let there = has-field (schema_after s (delete_model m)) n g t h in

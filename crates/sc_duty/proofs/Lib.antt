@@ -1,0 +1,10 @@
+pub mod Adding
+pub mod Ends
+pub mod Gains
+pub mod Meanings
+pub mod Means
+pub mod Running
+pub mod Signed
+pub mod Starting
+pub mod Truths
+pub mod WorkedFormulas

@@ -1,0 +1,10 @@
+pub mod Cases
+pub mod Duties
+pub mod Formulas
+pub mod Gains
+pub mod Public
+pub mod Reach
+pub mod Sizes
+pub mod Structures
+pub mod Truths
+pub mod Worked

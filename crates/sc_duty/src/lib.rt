@@ -1,0 +1,24 @@
+//! Obligations of scripts as formulas over structures: definitions and laws.
+//!
+//! | module | holds |
+//! |---|---|
+//! | `duty` | `Duty`, an obligation |
+//! | `laws` | laws over the definitions |
+//!
+//! | definitions | say |
+//! |---|---|
+//! | `specs/Structures.antt` | the signature of a schema, and the structure of a database over it |
+//! | `specs/Cases.antt` | the value of an expression as a tree of its cases |
+//! | `specs/Formulas.antt` | the formula of an expression, a set and a policy; added fields |
+//! | `specs/Reach.antt` | the formula of a use of a field in an initialiser |
+//! | `specs/Duties.antt` | the obligations of a script, and the formula of each |
+//! | `specs/Sizes.antt` | the sizes of policies and initialisers |
+//! | `specs/Gains.antt` | where the formula of an obligation against gains is true |
+//! | `specs/Truths.antt` | the formulas of conditions and policies tell what they mean |
+#![tactic(auto)]
+
+mod duty;
+mod laws;
+
+pub use duty::Duty;
+pub use laws::{expanded_is_counted, formulas_are_true, gain_formulas_are_true, worked_formulas};
