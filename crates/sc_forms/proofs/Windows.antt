@@ -196,7 +196,7 @@ budget_same {A} most ls tail a b s =
     → Same tail (if nat_le (length ls - length (left a)) most then a else over most ls) (if nat_le (length (ls ++ tail) - length (left b)) most then b else over most (ls ++ tail))) [
       | [] ↦ λ nil le. all_same most ls tail a b nil le
       | l ∷ rest ↦ λ some is. subst (λ z. Same tail (if nat_le (length ls - length (left a)) most then a else over most ls)
-      (if nat_le (length (ls ++ tail) - length (left z)) most then z else over most (ls ++ tail))) (sym is) (some_same most ls tail a (before_left tail a))
+          (if nat_le (length (ls ++ tail) - length (left z)) most then z else over most (ls ++ tail))) (sym is) (some_same most ls tail a (before_left tail a))
     ] refl s
 
 at_most_same : {A : Type 0} (most : ℕ) (ls tail : List Piece) (a b : Answer A) → Same tail a b → Same tail (at_most most ls a) (at_most most (ls ++ tail) b)

@@ -32,3 +32,11 @@ pub part_windowed : (most levels : ℕ) (p : Part) (ls rest end : List Piece) (r
     → Reads (at_most most (take (suc most) ls) (read_part rule first_of levels p (take (suc most) ls))) r rest → end ≡ drop (length (take (suc most) ls) - length rest) ls
     → Reads (at_most most ls (read_part rule first_of levels p ls)) r end
 part_windowed most levels p = windowed most (read_part rule first_of levels p) (part_looks rule first_of goes_on fits levels p)
+
+-- as the code has it: the window, the mark at its start, and where the cursor stands at last
+pub through : (most levels : ℕ) (p : Part) (ls within start rest end : List Piece) (r : Result (tree_of p) Stop) → within ≡ take (suc most) ls → start ≡ within
+    → Reads (at_most most start (read_part rule first_of levels p within)) r rest → end ≡ drop (length (take (suc most) ls) - length rest) ls
+    → Reads (at_most most ls (read_part rule first_of levels p ls)) r end
+through most levels p ls within start rest end r is same read e =
+    part_windowed most levels p ls rest end r (subst (λ z. Reads (at_most most z (read_part rule first_of levels p z)) r rest) is
+    (subst (λ z. Reads (at_most most z (read_part rule first_of levels p within)) r rest) same read)) e
