@@ -6,10 +6,12 @@ pub mod Ended
 pub mod EndedAgrees
 pub mod FormAgrees
 pub mod FormShapes
+pub mod FormWindows
 pub mod GrammarFits
 pub mod LevelsAgree
 pub mod Lists
 pub mod Shapes
 pub mod Tables
 pub mod WholeLists
+pub mod Windows
 pub mod GrammarAnswers

@@ -6,3 +6,4 @@ pub mod Folds
 pub mod LiteralValues
 pub mod Nesting
 pub mod Starts
+pub mod Windowed

@@ -1,7 +1,7 @@
 //! A cursor over the tokens of a text.
 
 ghost use Rattle.std.specs.Prelude.{◌≡◌, ◌≢◌, ◌≤◌, [], ◌∷◌, ◌↔◌, IsTrue, IsFalse, IfOk};
-ghost use Rattle.std.specs.Prelude.{if◌then◌else◌, None, not, nat_le, ◌-◌, length, drop, slice_get};
+ghost use Rattle.std.specs.Prelude.{if◌then◌else◌, None, not, nat_le, ◌-◌, length, drop, take, slice_get};
 ghost use Rattle.std.specs.Str.Parse.{digits_value};
 ghost use Rattle.sc_ast.specs.Pieces.{Piece, pieces_of};
 ghost use Rattle.sc_tree.specs.Forms as forms;
@@ -148,6 +148,25 @@ impl<'a> Cursor<'a> {
     {
         let (_, rest) = self.tokens.split_at(count);
         self.tokens = rest;
+    }
+
+    /// A cursor over the first tokens that are left, so many of them.
+    pub fn window(&self, most: usize) -> Cursor<'a>
+        ensures { result ≡ take most self.now }
+    {
+        let (tokens, _) = self.tokens.split_at(most.min(self.len()));
+        Cursor {
+            text: self.text,
+            tokens,
+        }
+    }
+
+    /// Passes over what a cursor over the first so many tokens has passed over.
+    pub fn follow(&mut self, window: &Cursor<'_>, most: usize)
+        ensures { self.new ≡ drop (length (take most self.old) - length window.now) self.old }
+    {
+        let size = most.min(self.len());
+        self.pass(size.saturating_sub(window.len()));
     }
 
     /// Whether more tokens were taken since the other cursor. It stands at the first too many then.

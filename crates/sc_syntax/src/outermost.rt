@@ -17,16 +17,22 @@ const MOST_LEVELS: u32 = 64;
 /// How many tokens an expression or a set has at most that no other holds.
 const MOST_TOKENS: usize = 1024;
 
+/// How many tokens are looked at. What is read never looks further than one token ahead, so it is
+/// the same as if it were read among all tokens; and it is no deeper than these can nest.
+const WINDOW: usize = MOST_TOKENS + 1;
+
 /// An expression that no other holds.
 #[tactic(auto, unfolding(sc_forms::specs::Reading::read))]
 pub fn outermost_expression(alloc: Global, cursor: &mut Cursor<'_>) -> Result<Expr, Stop>
     ensures { Reads
         (reading most_levels (within most_tokens (part Expression)) cursor.old) result cursor.new }
 {
-    let start = cursor.mark();
-    let read = expr(alloc, cursor, MOST_LEVELS);
-    let read = cursor.within(start, MOST_TOKENS, read)?;
-    Ok(read.into_inner())
+    let mut window = cursor.window(WINDOW);
+    let start = window.mark();
+    let read = expr(alloc, &mut window, MOST_LEVELS);
+    let read = window.within(start, MOST_TOKENS, read);
+    cursor.follow(&window, WINDOW);
+    Ok(read?.into_inner())
 }
 
 /// A set that no other holds.
@@ -35,8 +41,10 @@ pub fn outermost_set(alloc: Global, cursor: &mut Cursor<'_>) -> Result<SetExpr, 
     ensures { Reads
         (reading most_levels (within most_tokens (part Set)) cursor.old) result cursor.new }
 {
-    let start = cursor.mark();
-    let read = set(alloc, cursor, MOST_LEVELS);
-    let read = cursor.within(start, MOST_TOKENS, read)?;
-    Ok(read.into_inner())
+    let mut window = cursor.window(WINDOW);
+    let start = window.mark();
+    let read = set(alloc, &mut window, MOST_LEVELS);
+    let read = window.within(start, MOST_TOKENS, read);
+    cursor.follow(&window, WINDOW);
+    Ok(read?.into_inner())
 }
