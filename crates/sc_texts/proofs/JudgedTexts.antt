@@ -1,5 +1,5 @@
 -- What the parsers give for the tokens of a text is what holds of the text.
-use Rattle.std.proofs.Common.{◌≡◌, ◌≢◌, ◌⊎◌, ℕ, ◌+◌, ◌≤◌, ◌<◌, suc, arith, List, [], ◌∷◌, ◌++◌, length, length-append, refl, ap, sym, ◌∙◌, subst, Option, Some, None, Result, Ok, Err, slice_get}
+use Rattle.std.proofs.Common.{◌≡◌, ◌≢◌, ℕ, ◌+◌, ◌≤◌, suc, arith, List, [], ◌∷◌, length, refl, ap, sym, ◌∙◌, subst, None, Result, Ok, Err, slice_get}
 use Rattle.std.specs.List.{All}
 use Rattle.std.specs.Prelude.{IfOk, IfErr}
 use Rattle.sc_lexer.specs.Lexes.{Lexes, LexesFrom}
@@ -12,14 +12,14 @@ use Rattle.sc_ast.specs.Pieces.{Piece, pieces_of}
 use Rattle.sc_tree.specs.Forms.{Cause, NotGrammar, TooDeep, TooManyTokens, TooManyStatics, TooManyModels, TooManyFields, TooManyCommands}
 use Rattle.sc_tree.specs.ExprGrammar.{G}
 use Rattle.sc_tree.specs.Texts.{IsTextOf}
-use Rattle.sc_forms.specs.Reading.{Answer, Got, Stuck}
+use Rattle.sc_forms.specs.Reading.{Answer}
 use Rattle.sc_forms.specs.Answers.{answer}
 use Rattle.sc_causes.specs.Causes.{IsLimitAt}
 use Rattle.sc_causes.proofs.Refusals.{OneAnswer}
 use Rattle.sc_syntax.specs.declared.stop.Stop.{Stop}
 use Rattle.sc_syntax.specs.declared.stop.Stop.TheVariants as stop
-use Rattle.sc_syntax.specs.Reads.{Reads, cause_of}
-use Rattle.sc_texts.specs.Refused.{of_lex, refusal_for, IsRefusedAs}
+use Rattle.sc_syntax.specs.Reads.{Reads}
+use Rattle.sc_texts.specs.Refused.{of_lex, IsRefusedAs}
 use Rattle.sc_texts.specs.Judged.{IsPlaced, refusal_of, Judges}
 use Rattle.sc_texts.specs.declared.syntax_err.SyntaxErr.{SyntaxErr}
 use Rattle.sc_texts.specs.declared.syntax_err.SyntaxErr.TheVariants as err

@@ -1,3 +1,4 @@
+pub mod CommandStarts
 pub mod FieldLists
 pub mod GrammarTexts
 pub mod JudgedTexts

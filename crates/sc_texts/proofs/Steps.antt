@@ -45,14 +45,14 @@ braces_first f ls rest c e = rw e refl
 pub braces_second : {A : Type 0} (f : G A) (ls rest more : List Piece) (l : Piece) (c : Cause) → one (Sign k.BraceOpen) ls ≡ Got l rest → reading most_levels f rest ≡ Stuck c more
     → reading most_levels (braces f) ls ≡ Stuck c more
 unfolding read
-braces_second f ls rest more l c open e = rw (open, e) refl
+braces_second f ls rest more l c opens e = rw (opens, e) refl
 
 pub braces_last : {A : Type 0} (f : G A) (ls rest more : List Piece) (l : Piece) (x : A) → one (Sign k.BraceOpen) ls ≡ Got l rest → reading most_levels f rest ≡ Got x more
     → reading most_levels (braces f) ls ≡ made (λ _. x) (one (Sign k.BraceClose) more)
 unfolding read
-braces_last {A} f ls rest more l x open e = rw (open, e) (go (one (Sign k.BraceClose) more))
+braces_last {A} f ls rest more l x opens e = rw (opens, e) (go (one (Sign k.BraceClose) more))
   where
-    go : (ans : Answer Piece) → made (λ (v : Piece × A × Piece). v.1.0) (made (λ y. (l, y)) (made (λ (y : Piece). (x, y)) ans)) ≡ made (λ _. x) ans
+    go : (ans : Answer Piece) → made (λ (v : Piece × (A × Piece)). v.1.0) (made (λ y. (l, y)) (made (λ (y : Piece). (x, y)) ans)) ≡ made (λ _. x) ans
     go (Got y left) = refl
     go (Stuck c left) = refl
 

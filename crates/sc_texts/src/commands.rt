@@ -114,7 +114,7 @@ fn command(alloc: Global, cursor: &mut Cursor<'_>) -> Result<Command, Stop>
 }
 
 /// Whether a command begins with the next token.
-#[tactic(auto, unfolding(sc_tree::specs::Grammar::command_form, sc_tree::specs::Grammar::model_command))]
+#[tactic(auto, using(crate::proofs::CommandStarts::command_starts))]
 fn sees_command(cursor: &Cursor<'_>) -> bool
     ensures { result ≡ starts (first first_of form.command_form) cursor.now }
 {

@@ -12,7 +12,7 @@ returns-in_err-model c =
     let p = err_from_is_err_and c.from_residual.result c.from_residual.ensures.1 in
     rw p.1 (λ d e.
     let same : cause_of c.in_err-model.field-0.0 ≡ Some d = cc (p.2, e) in
-    no_name of_model c.args.cursor.now c.upper.new.cursor d (c.in_err-model.ensures d same))
+    no_name of_model c.args.cursor.now c.upper.new.self d (c.in_err-model.ensures d same))
 
 pub returns-in_err-sign : goal.returns-in_err-sign
 unfolding model_command
@@ -20,10 +20,10 @@ returns-in_err-sign c =
     let p = err_from_is_err_and c.from_residual-in_err-sign.result c.from_residual-in_err-sign.ensures.1 in
     rw p.1 (λ d e.
     let same : cause_of c.in_err-sign.field-0.0 ≡ Some d = cc (p.2, e) in
-    no_colons of_model c.args.cursor.now c.upper.new.cursor c.sign.new.cursor _ d c.in_ok-model.ensures (c.in_err-sign.ensures d same))
+    no_colons of_model c.args.cursor.now c.upper.new.self c.sign.new.self _ d c.in_ok-model.ensures (c.in_err-sign.ensures d same))
 
 pub returns : goal.returns
 unfolding model_command
 returns c =
     reads_same _ _ c.of_model.result c.of_model.new.cursor
-    (name_read of_model c.args.cursor.now c.upper.new.cursor c.sign.new.cursor _ _ c.in_ok-model.ensures c.in_ok-sign.ensures) c.of_model.ensures
+    (name_read of_model c.args.cursor.now c.upper.new.self c.sign.new.self _ _ c.in_ok-model.ensures c.in_ok-sign.ensures) c.of_model.ensures

@@ -1,4 +1,4 @@
-use Rattle.std.proofs.Common.{◌≡◌, List, ℕ, Option, Some, None, rules}
+use Rattle.std.proofs.Common.{◌≡◌, List, ℕ, Option, Some, None}
 use Rattle.std.proofs.lemmas.Result.{err_from_is_err_and}
 use Rattle.sc_lexer.specs.declared.token.TokenKind.TheVariants as k
 use Rattle.sc_tree.specs.declared.policies.Policy.{Policy}
