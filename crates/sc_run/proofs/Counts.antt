@@ -1,27 +1,39 @@
 -- A text has so many statics and commands at most, and its small tree has as many.
-use Rattle.std.proofs.Common.{◌≡◌, ◌≤◌, ℕ, List, [], ◌∷◌, length, refl, ap, sym, ◌∙◌, subst}
-use Rattle.std.specs.Prelude.{Option, Some, None, option_map}
+use Rattle.std.proofs.Common.{◌≡◌, ◌≤◌, ℕ, suc, List, [], ◌∷◌, length, refl, ap, sym, ◌∙◌, subst}
+use Rattle.std.specs.Prelude.{Option, Some, None, Ok, Err, option_map}
 use Rattle.sc_ast.specs.Limits.{most_statics, most_commands}
 use Rattle.sc_ast.specs.declared.models.Spec as ast_spec
+use Rattle.sc_ast.specs.declared.commands.Command as ast_command
 use Rattle.sc_ast.specs.declared.commands.Script as ast_script
+use Rattle.sc_flow.specs.Files.{Files}
 use Rattle.sc_tree.specs.declared.models.Spec.{Spec}
 use Rattle.sc_tree.specs.declared.commands.Script.{Script}
 use Rattle.sc_tree.specs.Grammar.{spec_form, script_form}
 use Rattle.sc_tree.specs.Texts.{IsTextOf}
 use Rattle.sc_small.specs.Gives.{with_both, for_each}
 use Rattle.sc_small.specs.Small.{small_static, small_command, small_spec, small_script}
+use Rattle.sc_run.specs.Loads.{Loads}
+use Rattle.sc_run.specs.Stages.{Stops, Goes}
 
 -- ---- texts
 
-pub few_statics : (text : List ℕ) (s : Spec) → IsTextOf spec_form text s → length s.statics ≤ most_statics
+few_statics : (text : List ℕ) (s : Spec) → IsTextOf spec_form text s → length s.statics ≤ most_statics
 unfolding spec_form
 few_statics text s (tokens, lexes, (v, is, (front, back, glued, (each, few), more))) =
     subst (λ (z : Spec). length z.statics ≤ most_statics) (sym is) few
 
-pub few_commands : (text : List ℕ) (s : Script) → IsTextOf script_form text s → length s.commands ≤ most_commands
+few_commands : (text : List ℕ) (s : Script) → IsTextOf script_form text s → length s.commands ≤ most_commands
 unfolding script_form
 few_commands text s (tokens, lexes, (v, is, (each, few))) =
     subst (λ (z : Script). length z.commands ≤ most_commands) (sym is) few
+
+pub loaded_statics : (told : Option Files) (name : List ℕ) (s : Spec) → Loads spec_form told name (Ok s) → length s.statics ≤ most_statics
+loaded_statics told name s (Stops stop p e) = absurd cc
+loaded_statics told name s (Goes text p q) = few_statics text s q
+
+pub loaded_commands : (told : Option Files) (name : List ℕ) (s : Script) → Loads script_form told name (Ok s) → length s.commands ≤ most_commands
+loaded_commands told name s (Stops stop p e) = absurd cc
+loaded_commands told name s (Goes text p q) = few_commands text s q
 
 -- ---- small trees
 
@@ -45,6 +57,9 @@ small-statics s t e =
 pub small-commands : (s : Script) (t : ast_script.Script) → small_script s ≡ Some t → length t.commands ≡ length s.commands
 small-commands s t e = go (for_each small_command s.commands) refl e
   where
-    go : (all : Option (List _)) → for_each small_command s.commands ≡ all → option_map _ all ≡ Some t → length t.commands ≡ length s.commands
-    go (Some commands) is e = ap (λ (z : ast_script.Script). length z.commands) (sym cc) ∙ for_each-length small_command s.commands commands is
+    go : (all : Option (List ast_command.Command)) → for_each small_command s.commands ≡ all → option_map (λ commands. record { commands = commands }) all ≡ Some t
+        → length t.commands ≡ length s.commands
+    go (Some commands) is e =
+        let same : commands ≡ t.commands = cc in
+        ap length (sym same) ∙ for_each-length small_command s.commands commands is
     go None is e = absurd cc

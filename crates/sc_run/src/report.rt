@@ -14,12 +14,7 @@ use sc_texts::{SyntaxErr, What};
 use std::alloc::{AllocError, Global};
 
 /// The line on a cause for which the text of a file is refused, and its place.
-fn cause_text(
-    alloc: Global,
-    name: &[u8],
-    cause: &[u8],
-    place: u32,
-) -> Result<Vec<u8>, AllocError>
+fn cause_text(alloc: Global, name: &[u8], cause: &[u8], place: u32) -> Result<Vec<u8>, AllocError>
     ensures { IfOk result (λ text. text.items ≡ spec.cause_text name.now cause.now place) }
 {
     let number = place.to_string(alloc)?;
@@ -27,12 +22,7 @@ fn cause_text(
 }
 
 /// The line on something of which a file has too many.
-fn too_many_text(
-    alloc: Global,
-    name: &[u8],
-    what: What,
-    at: u32,
-) -> Result<Vec<u8>, AllocError>
+fn too_many_text(alloc: Global, name: &[u8], what: What, at: u32) -> Result<Vec<u8>, AllocError>
     ensures { IfOk result (λ text. text.items ≡ spec.syntax_text name.now (TooMany what at)) }
 {
     match what {

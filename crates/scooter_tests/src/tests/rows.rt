@@ -101,11 +101,7 @@ end
             Status::TextRefused,
             b"s.scm: not grammar at token 7\n",
         ),
-        (
-            b"Note::RemoveField(body)",
-            Status::NotBuilt,
-            b"not built\n",
-        ),
+        (b"Note::RemoveField(body)", Status::NotBuilt, b"not built\n"),
     ];
     for (script, status, output) in rows {
         let ended = checked(rt.alloc(), NOTES, script)?;

@@ -23,14 +23,14 @@ fn checked(alloc: Global, spec: &[u8], script: &[u8]) -> Result<Ended, Fail> {
 #[test]
 fn one_cause_and_its_place(rt: HostRuntime) -> Result<(), Fail> {
     let rows = [
-        (
-            b"\xff".as_slice(),
-            b"s.scm: not text at 0\n".as_slice(),
-        ),
+        (b"\xff".as_slice(), b"s.scm: not text at 0\n".as_slice()),
         // The whole text is UTF-8 before any of its tokens is looked at.
         (b"AddStatic(A) = # \x80", b"s.scm: not text at 17\n"),
         (b"AddStatic(A) =", b"s.scm: bad byte at 13\n"),
-        (b"User::AddField(big: Int {read: none, write: none}, u -> 9223372036854775809)", b"s.scm: bad number at 56\n"),
+        (
+            b"User::AddField(big: Int {read: none, write: none}, u -> 9223372036854775809)",
+            b"s.scm: bad number at 56\n",
+        ),
         (
             b"User::WeakenFieldPolicy(email, {write: public}, \"because",
             b"s.scm: unfinished at 48\n",
@@ -41,7 +41,10 @@ fn one_cause_and_its_place(rt: HostRuntime) -> Result<(), Fail> {
         ),
         // Where the tokens end too early, it is their number.
         (b"DeleteModel(User", b"s.scm: not grammar at token 3\n"),
-        (b"User::UpdatePolicy({})", b"s.scm: not grammar at token 5\n"),
+        (
+            b"User::UpdatePolicy({})",
+            b"s.scm: not grammar at token 5\n",
+        ),
         (b"AddStatic(Set)", b"s.scm: not grammar at token 2\n"),
     ];
     for (script, output) in rows {
