@@ -1,6 +1,6 @@
 -- A text has so many statics and commands at most, and its small tree has as many.
 use Rattle.std.proofs.Common.{◌≡◌, ◌≤◌, ℕ, suc, List, [], ◌∷◌, length, refl, ap, sym, ◌∙◌, subst}
-use Rattle.std.specs.Prelude.{Option, Some, None, Ok, Err, option_map}
+use Rattle.std.specs.Prelude.{Option, Some, None, Ok, option_map}
 use Rattle.sc_ast.specs.Limits.{most_statics, most_commands}
 use Rattle.sc_ast.specs.declared.models.Spec as ast_spec
 use Rattle.sc_ast.specs.declared.commands.Command as ast_command

@@ -24,7 +24,7 @@ use Rattle.sc_run.specs.declared.refusal.Refusal.TheVariants as refusal
 use Rattle.sc_run.specs.declared.status.Status.{Status}
 use Rattle.sc_run.specs.declared.stop.Stop.{Stop}
 use Rattle.sc_run.specs.declared.stop.Stop.TheVariants as stop
-use Rattle.sc_run.specs.Answer.{Commands, AreSmall, Checks, ChecksFiles, Runs, IsAnswer, refusal_status, outcome_status, status_of}
+use Rattle.sc_run.specs.Answer.{Commands, Checks, ChecksFiles, Runs, IsAnswer, refusal_status, outcome_status, status_of}
 use Rattle.sc_run.specs.Loads.{IsNotGiven, Fetches, Reads, Loads}
 use Rattle.sc_run.specs.Stages.{Stage, Then, Stops, Goes}
 

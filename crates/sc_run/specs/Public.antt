@@ -1,6 +1,6 @@
 -- The words of this crate's public contracts.
 pub use Rattle.sc_run.specs.Status.{code_of}
-pub use Rattle.sc_run.specs.Stages.{Stage, Then, Judges}
+pub use Rattle.sc_run.specs.Stages.{Stage, Then, Judges, stop_of}
 pub use Rattle.sc_run.specs.Words.{Names, names_of, is_operand, command_of}
 pub use Rattle.sc_run.specs.Loads.{IsNotGiven, Fetches, Reads, Loads}
 pub use Rattle.sc_run.specs.Answer.{Commands, AreSmall, Checks, ChecksFiles, Runs, IsAnswer, refusal_status, outcome_status, status_of, refusal_text, outcome_text, text_of}
