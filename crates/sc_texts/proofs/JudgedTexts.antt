@@ -1,5 +1,5 @@
 -- What the parsers give for the tokens of a text is what holds of the text.
-use Rattle.std.proofs.Common.{◌≡◌, ◌≢◌, ◌⊎◌, ℕ, ◌+◌, ◌≤◌, ◌<◌, suc, arith, List, [], ◌∷◌, ◌++◌, length, length-append, refl, ap, sym, ◌∙◌, subst, Option, Some, None, Result, Ok, Err, slice_get}
+use Rattle.std.proofs.Common.{◌≡◌, ◌≢◌, ℕ, ◌+◌, ◌≤◌, suc, arith, List, [], ◌∷◌, length, refl, ap, sym, ◌∙◌, subst, None, Result, Ok, Err, slice_get}
 use Rattle.std.specs.List.{All}
 use Rattle.std.specs.Prelude.{IfOk, IfErr}
 use Rattle.sc_lexer.specs.Lexes.{Lexes, LexesFrom}
@@ -12,14 +12,14 @@ use Rattle.sc_ast.specs.Pieces.{Piece, pieces_of}
 use Rattle.sc_tree.specs.Forms.{Cause, NotGrammar, TooDeep, TooManyTokens, TooManyStatics, TooManyModels, TooManyFields, TooManyCommands}
 use Rattle.sc_tree.specs.ExprGrammar.{G}
 use Rattle.sc_tree.specs.Texts.{IsTextOf}
-use Rattle.sc_forms.specs.Reading.{Answer, Got, Stuck}
+use Rattle.sc_forms.specs.Reading.{Answer}
 use Rattle.sc_forms.specs.Answers.{answer}
 use Rattle.sc_causes.specs.Causes.{IsLimitAt}
 use Rattle.sc_causes.proofs.Refusals.{OneAnswer}
 use Rattle.sc_syntax.specs.declared.stop.Stop.{Stop}
 use Rattle.sc_syntax.specs.declared.stop.Stop.TheVariants as stop
-use Rattle.sc_syntax.specs.Reads.{cause_of}
-use Rattle.sc_texts.specs.Refused.{of_lex, refusal_for, IsRefusedAs}
+use Rattle.sc_syntax.specs.Reads.{Reads}
+use Rattle.sc_texts.specs.Refused.{of_lex, IsRefusedAs}
 use Rattle.sc_texts.specs.Judged.{IsPlaced, refusal_of, Judges}
 use Rattle.sc_texts.specs.declared.syntax_err.SyntaxErr.{SyntaxErr}
 use Rattle.sc_texts.specs.declared.syntax_err.SyntaxErr.TheVariants as err
@@ -31,14 +31,10 @@ first_none (l ∷ ls) e = cc
 
 -- ---- a form that was not read
 
--- the reader of the form is stopped as the code is
-abbrev pub Stops : {A : Type 0} → G A → List Piece → Stop → List Piece → Type 0
-Stops f ls s rest = (c : Cause) → cause_of s ≡ Some c → answer f ls ≡ Stuck c rest
-
 limit_placed : {A : Type 0} (f : G A) (c : Cause) (ls rest : List Piece) → IsLimitAt c f ls rest → rest ≢ []
 limit_placed f c ls rest (m, o) nil = let no : [] ≡ o.last ∷ o.more = sym nil ∙ o.stands in cc
 
-pub placed : {A : Type 0} (f : G A) → OneAnswer f → (text : List ℕ) (tokens : List Token) (s : Stop) (rest : List Piece) → Stops f (pieces_of text tokens) s rest → IsPlaced s (length tokens) rest
+pub placed : {A : Type 0} (f : G A) → OneAnswer f → (text : List ℕ) (tokens : List Token) (s : Stop) (rest : List Piece) → Reads (answer f (pieces_of text tokens)) (Err s) rest → IsPlaced s (length tokens) rest
 placed f a text tokens stop.NotGrammar rest h =
     let e = (a.stuck NotGrammar (pieces_of text tokens) rest (h NotGrammar refl)).stands in rest_size text tokens e.front rest e.glued
 placed f a text tokens stop.TooDeep rest h = limit_placed f TooDeep (pieces_of text tokens) rest (a.stuck TooDeep (pieces_of text tokens) rest (h TooDeep refl)).stands
@@ -49,15 +45,20 @@ placed f a text tokens stop.TooManyFields rest h = limit_placed f TooManyFields 
 placed f a text tokens stop.TooManyCommands rest h = limit_placed f TooManyCommands (pieces_of text tokens) rest (a.stuck TooManyCommands (pieces_of text tokens) rest (h TooManyCommands refl)).stands
 placed f a text tokens stop.OutOfMemory rest h = tt
 
-pub judged : {A : Type 0} (f : G A) (ls : List Piece) (count : ℕ) (s : Stop) (rest : List Piece) → Stops f ls s rest → (e : SyntaxErr) → e ≡ refusal_of s count rest → Judges f ls count (Err e)
-judged f ls count stop.NotGrammar rest h e is = λ some. (NotGrammar, rest, h NotGrammar refl, is)
-judged f ls count stop.TooDeep rest h e is = λ some. (TooDeep, rest, h TooDeep refl, is)
-judged f ls count stop.TooManyTokens rest h e is = λ some. (TooManyTokens, rest, h TooManyTokens refl, is)
-judged f ls count stop.TooManyStatics rest h e is = λ some. (TooManyStatics, rest, h TooManyStatics refl, is)
-judged f ls count stop.TooManyModels rest h e is = λ some. (TooManyModels, rest, h TooManyModels refl, is)
-judged f ls count stop.TooManyFields rest h e is = λ some. (TooManyFields, rest, h TooManyFields refl, is)
-judged f ls count stop.TooManyCommands rest h e is = λ some. (TooManyCommands, rest, h TooManyCommands refl, is)
-judged f ls count stop.OutOfMemory rest h e is = λ some. absurd (some is)
+pub all_placed : {A : Type 0} (f : G A) → OneAnswer f → (text : List ℕ) (tokens : List Token) (r : Result A Stop) (rest : List Piece) → Reads (answer f (pieces_of text tokens)) r rest
+    → IfErr r (λ s. IsPlaced s (length tokens) rest)
+all_placed f a text tokens (Ok x) rest h = tt
+all_placed f a text tokens (Err s) rest h = placed f a text tokens s rest h
+
+pub judged : {A : Type 0} (ans : Answer A) (count : ℕ) (s : Stop) (rest : List Piece) → Reads ans (Err s) rest → (e : SyntaxErr) → e ≡ refusal_of s count rest → Judges ans count (Err e)
+judged ans count stop.NotGrammar rest h e is = λ some. (NotGrammar, rest, h NotGrammar refl, is)
+judged ans count stop.TooDeep rest h e is = λ some. (TooDeep, rest, h TooDeep refl, is)
+judged ans count stop.TooManyTokens rest h e is = λ some. (TooManyTokens, rest, h TooManyTokens refl, is)
+judged ans count stop.TooManyStatics rest h e is = λ some. (TooManyStatics, rest, h TooManyStatics refl, is)
+judged ans count stop.TooManyModels rest h e is = λ some. (TooManyModels, rest, h TooManyModels refl, is)
+judged ans count stop.TooManyFields rest h e is = λ some. (TooManyFields, rest, h TooManyFields refl, is)
+judged ans count stop.TooManyCommands rest h e is = λ some. (TooManyCommands, rest, h TooManyCommands refl, is)
+judged ans count stop.OutOfMemory rest h e is = λ some. absurd (some is)
 
 -- ---- the whole text
 
@@ -74,24 +75,24 @@ pub few_tokens : (text : List ℕ) (tokens : List Token) → Lexes text tokens �
 few_tokens text tokens lexes all = let le = tokens_from text tokens 0 (omega arith) lexes.1 all in omega (arith, le)
 
 -- what the tokens come to, and what the text comes to
-pub ok_of : {A : Type 0} (f : G A) → OneAnswer f → (text : List ℕ) (tokens slice : List Token) → slice ≡ tokens → Lexes text tokens → (r : Result A SyntaxErr) → Judges f (pieces_of text slice) (length slice) r
+pub ok_of : {A : Type 0} (f : G A) → OneAnswer f → (text : List ℕ) (tokens slice : List Token) → slice ≡ tokens → Lexes text tokens → (r : Result A SyntaxErr) → Judges (answer f (pieces_of text slice)) (length slice) r
     → IfOk r (λ x. IsTextOf f text x)
 ok_of f a text tokens slice same lexes (Ok x) (rest, is) = (slice, subst (Lexes text) (sym same) lexes, (a.got x (pieces_of text slice) rest is).1)
 ok_of f a text tokens slice same lexes (Err e) j = tt
 
-pub only_of : {A : Type 0} (f : G A) → OneAnswer f → (text : List ℕ) (tokens slice : List Token) → slice ≡ tokens → Lexes text tokens → (r : Result A SyntaxErr) → Judges f (pieces_of text slice) (length slice) r
+pub only_of : {A : Type 0} (f : G A) → OneAnswer f → (text : List ℕ) (tokens slice : List Token) → slice ≡ tokens → Lexes text tokens → (r : Result A SyntaxErr) → Judges (answer f (pieces_of text slice)) (length slice) r
     → IfOk r (λ x. (other : A) → IsTextOf f text other → other ≡ x)
 only_of {A} f a text tokens slice same lexes (Ok x) j = λ other t. one_tree f a text other x t (let r : Result A SyntaxErr = Ok x in ok_of f a text tokens slice same lexes r j)
 only_of f a text tokens slice same lexes (Err e) j = tt
 
-pub refused_of : {A : Type 0} (f : G A) → OneAnswer f → (text : List ℕ) (tokens slice : List Token) → slice ≡ tokens → Lexes text tokens → (r : Result A SyntaxErr) → Judges f (pieces_of text slice) (length slice) r
+pub refused_of : {A : Type 0} (f : G A) → OneAnswer f → (text : List ℕ) (tokens slice : List Token) → slice ≡ tokens → Lexes text tokens → (r : Result A SyntaxErr) → Judges (answer f (pieces_of text slice)) (length slice) r
     → IfErr r (λ e. e ≢ err.OutOfMemory → IsRefusedAs f text e)
 refused_of f a text tokens slice same lexes (Ok x) j = tt
 refused_of f a text tokens slice same lexes (Err e) j = λ some.
     let (c, rest, is, at) = j some in
     subst (IsRefusedAs f text) (sym at) (cause_refused f text slice c rest (subst (Lexes text) (sym same) lexes, a.stuck c (pieces_of text slice) rest is))
 
-pub none_of : {A : Type 0} (f : G A) → OneAnswer f → (text : List ℕ) (tokens slice : List Token) → slice ≡ tokens → Lexes text tokens → (r : Result A SyntaxErr) → Judges f (pieces_of text slice) (length slice) r
+pub none_of : {A : Type 0} (f : G A) → OneAnswer f → (text : List ℕ) (tokens slice : List Token) → slice ≡ tokens → Lexes text tokens → (r : Result A SyntaxErr) → Judges (answer f (pieces_of text slice)) (length slice) r
     → IfErr r (λ e. e ≢ err.OutOfMemory → (x : A) → ¬ (IsTextOf f text x))
 none_of f a text tokens slice same lexes (Ok x) j = tt
 none_of {A} f a text tokens slice same lexes (Err e) j = λ some x t.

@@ -1,5 +1,5 @@
 -- A text spells one tree of a form, or it is refused for one cause at one place.
-use Rattle.std.proofs.Common.{◌≡◌, ◌⊎◌, inl, inr, ℕ, ◌+◌, ◌-◌, ◌≤◌, arith, List, [], ◌∷◌, ◌++◌, length, length-append, refl, ap, sym, ◌∙◌, subst}
+use Rattle.std.proofs.Common.{◌≡◌, ◌⊎◌, inl, inr, ℕ, ◌-◌, ◌≤◌, arith, List, ◌∷◌, ◌++◌, length, length-append, refl, ap, sym, ◌∙◌, subst}
 use Rattle.std.proofs.lemmas.List.{length-map}
 use Rattle.sc_lexer.specs.Lexes.{Lexes}
 use Rattle.sc_lexer.specs.Refused.{Refuses}

@@ -1,5 +1,5 @@
 -- Loops that read items: each turn, and what is read so far.
-use Rattle.std.proofs.Common.{◌≡◌, ◌≢◌, ℕ, zero, suc, ◌+◌, ◌-◌, arith, List, [], ◌∷◌, ◌++◌, Bool, true, false, ◌||◌, refl, ap, sym, ◌∙◌, subst, append_assoc, append-nil, Option, Some, None, Result, Ok, Err}
+use Rattle.std.proofs.Common.{◌≡◌, ◌≢◌, ℕ, zero, suc, ◌+◌, ◌-◌, arith, List, [], ◌∷◌, ◌++◌, Bool, true, false, ◌||◌, refl, ap, sym, ◌∙◌, append_assoc, append-nil, Some, None, Ok, Err}
 use Rattle.std.specs.Prelude.{if◌then◌else◌}
 use Rattle.sc_ast.specs.Pieces.{Piece}
 use Rattle.sc_tree.specs.Forms.{Want, Cause, NotGrammar, admits, may}
@@ -8,7 +8,7 @@ use Rattle.sc_forms.proofs.Lists.{may_left, may_right}
 use Rattle.sc_causes.proofs.EachCaught.{step_on, step_over, step_off}
 use Rattle.sc_causes.proofs.EndedCaught.{onward, end_step, end_over, end_last, end_other}
 use Rattle.sc_syntax.specs.declared.stop.Stop.{Stop}
-use Rattle.sc_syntax.specs.Reads.{Reads, cause_of}
+use Rattle.sc_syntax.specs.Reads.{cause_of}
 use Rattle.sc_texts.specs.Turns.{Turns, passed}
 
 -- ---- what is read so far

@@ -1,12 +1,13 @@
 -- Items that stand again and again, where so many may still come.
 use Rattle.std.specs.Prelude.{ℕ, List}
 use Rattle.sc_lexer.specs.declared.token.TokenKind.TheVariants as k
-use Rattle.sc_tree.specs.Forms.{Sign, TooManyStatics, TooManyModels, TooManyFields, first}
+use Rattle.sc_tree.specs.Forms.{Sign, TooManyStatics, TooManyModels, TooManyFields, TooManyCommands, first}
 use Rattle.sc_tree.specs.declared.named.Named.{Named}
 use Rattle.sc_tree.specs.declared.models.FieldDef.{FieldDef}
 use Rattle.sc_tree.specs.declared.models.ModelDef.{ModelDef}
+use Rattle.sc_tree.specs.declared.commands.Command.{Command}
 use Rattle.sc_tree.specs.ExprGrammar.{sign}
-use Rattle.sc_tree.specs.Grammar.{most_levels, static_form, model_form, field_form}
+use Rattle.sc_tree.specs.Grammar.{most_levels, static_form, model_form, field_form, command_form}
 use Rattle.sc_tree.specs.Texts.{first_of}
 use Rattle.sc_forms.specs.Reading.{Reader, made, read_each, read_end}
 use Rattle.sc_syntax.specs.Reads.{reading}
@@ -16,6 +17,9 @@ statics_from left ls = read_each TooManyStatics left (first first_of static_form
 
 unfoldable pub models_from : ℕ → Reader (List ModelDef)
 models_from left ls = read_each TooManyModels left (first first_of model_form) (reading most_levels model_form) ls
+
+unfoldable pub commands_from : ℕ → Reader (List Command)
+commands_from left ls = read_each TooManyCommands left (first first_of command_form) (reading most_levels command_form) ls
 
 -- with a comma before each, and the end of the model
 unfoldable pub fields_from : ℕ → Reader (List FieldDef)

@@ -1,10 +1,8 @@
 -- What the parsers give for the tokens of a text.
-use Rattle.std.specs.Prelude.{◌≡◌, ◌≢◌, ◌≤◌, ℕ, List, [], length, Option, Some, None, Result, Ok, Err}
+use Rattle.std.specs.Prelude.{◌≡◌, ◌≢◌, ◌≤◌, ℕ, List, [], length, Result, Ok, Err}
 use Rattle.sc_ast.specs.Pieces.{Piece}
 use Rattle.sc_tree.specs.Forms.{Cause, NotGrammar, TooDeep, TooManyTokens, TooManyStatics, TooManyModels, TooManyFields, TooManyCommands}
-use Rattle.sc_tree.specs.ExprGrammar.{G}
-use Rattle.sc_forms.specs.Reading.{Got, Stuck}
-use Rattle.sc_forms.specs.Answers.{answer}
+use Rattle.sc_forms.specs.Reading.{Answer, Got, Stuck}
 use Rattle.sc_syntax.specs.declared.stop.Stop.{Stop}
 use Rattle.sc_syntax.specs.declared.stop.Stop.TheVariants as stop
 use Rattle.sc_texts.specs.Refused.{refusal_for}
@@ -33,8 +31,8 @@ refusal_of stop.TooManyFields count rest = refusal_for count TooManyFields rest
 refusal_of stop.TooManyCommands count rest = refusal_for count TooManyCommands rest
 refusal_of stop.OutOfMemory count rest = err.OutOfMemory
 
--- It gives what the reader of the form answers for all of the tokens, unless memory ran out.
-abbrev pub Judges : {A : Type 0} → G A → List Piece → ℕ → Result A SyntaxErr → Type 0
-Judges f ls count (Ok x) = (rest : List Piece) × (answer f ls ≡ Got x rest)
-Judges f ls count (Err e) =
-    e ≢ err.OutOfMemory → (c : Cause) × (rest : List Piece) × (answer f ls ≡ Stuck c rest) × (e ≡ refusal_for count c rest)
+-- It gives what the reader answers for all of so many tokens, unless memory ran out.
+abbrev pub Judges : {A : Type 0} → Answer A → ℕ → Result A SyntaxErr → Type 0
+Judges answer count (Ok x) = (rest : List Piece) × (answer ≡ Got x rest)
+Judges answer count (Err e) =
+    e ≢ err.OutOfMemory → (c : Cause) × (rest : List Piece) × (answer ≡ Stuck c rest) × (e ≡ refusal_for count c rest)

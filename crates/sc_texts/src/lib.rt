@@ -9,13 +9,18 @@
 //! - `laws`: what holds of any text.
 #![tactic(auto)]
 
+mod added;
+mod closed;
+mod commands;
 mod laws;
 mod models;
+mod of_model;
 mod policies;
+mod rights;
 mod syntax_err;
 mod texts;
 mod types;
 
 pub use laws::{one_script_text, one_spec_text};
 pub use syntax_err::{SyntaxErr, What};
-pub use texts::parse_spec;
+pub use texts::{parse_script, parse_spec};

@@ -22,10 +22,10 @@ pub fn policy(alloc: Global, cursor: &mut Cursor<'_>) -> Result<Policy, Stop>
         let word = cursor.word(TokenKind::Lower, b"none")?;
         return Ok(Policy::Nobody(word.at()));
     }
-    let variable = cursor.lower()?;
+    let variable = cursor.lower()?.named(alloc)?;
     cursor.sign(TokenKind::Arrow)?;
     let set = outermost_set(alloc, cursor)?;
-    Ok(Policy::Fun(variable.named(alloc)?, set))
+    Ok(Policy::Fun(variable, set))
 }
 
 /// A right, named by this word, with its policy.

@@ -1,8 +1,7 @@
-use Rattle.std.proofs.Common.{◌≡◌, ◌∙◌, sym, ap, rules, Some, List, [], ◌∷◌}
+use Rattle.std.proofs.Common.{◌≡◌, ◌∙◌, sym, ap, rules, Some, List}
 use Rattle.std.proofs.lemmas.Result.{err_from_is_err_and}
 use Rattle.sc_lexer.specs.declared.token.TokenKind.TheVariants as k
 use Rattle.sc_tree.specs.Forms.{Sign, Want, first, TooManyFields}
-use Rattle.sc_tree.specs.ExprGrammar.{sign}
 use Rattle.sc_tree.specs.Grammar.{most_levels, field_form}
 use Rattle.sc_tree.specs.Texts.{first_of}
 use Rattle.sc_forms.specs.Reading.{Got, Stuck, read, one}

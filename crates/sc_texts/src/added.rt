@@ -1,0 +1,78 @@
+//! Fields that a command adds.
+
+ghost use Rattle.sc_tree.specs.ExprGrammar.{Expression, Set, lambda};
+ghost use Rattle.sc_tree.specs.Forms.{either, part, within};
+ghost use Rattle.sc_tree.specs.Grammar as form;
+ghost use Rattle.sc_tree.specs.Grammar.{most_levels, most_tokens};
+ghost use Rattle.sc_syntax.specs.Reads.{Reads, reading};
+
+use crate::models::field_rights;
+use crate::types::{plain_type, set_type};
+use sc_lexer::TokenKind;
+use sc_syntax::{Cursor, Stop, Word, outermost_expression, outermost_set};
+use sc_tree::{Expr, Init, Policy, SetExpr, Ty};
+use std::alloc::Global;
+
+/// The type of a field with its rights, the variable that stands for a record, and what the field
+/// holds at first.
+pub type Added<'a> = ((Ty, Policy, Policy), Word<'a>, Init);
+
+/// A variable and a set.
+#[tactic(auto, unfolding(sc_forms::specs::Reading::read))]
+fn set_of_record<'a>(alloc: Global, cursor: &mut Cursor<'a>) -> Result<(Word<'a>, SetExpr), Stop>
+    ensures { Reads (reading most_levels
+        (lambda (within most_tokens (part Set))) cursor.old) result cursor.new }
+{
+    let record = cursor.lower()?;
+    cursor.sign(TokenKind::Arrow)?;
+    let set = outermost_set(alloc, cursor)?;
+    Ok((record, set))
+}
+
+/// A variable and an expression.
+#[tactic(auto, unfolding(sc_forms::specs::Reading::read))]
+fn value_of_record<'a>(alloc: Global, cursor: &mut Cursor<'a>) -> Result<(Word<'a>, Expr), Stop>
+    ensures { Reads (reading most_levels
+        (lambda (within most_tokens (part Expression))) cursor.old) result cursor.new }
+{
+    let record = cursor.lower()?;
+    cursor.sign(TokenKind::Arrow)?;
+    let value = outermost_expression(alloc, cursor)?;
+    Ok((record, value))
+}
+
+/// A set type with its rights, and what the field holds at first.
+#[tactic(auto, unfolding(sc_forms::specs::Reading::read, sc_tree::specs::Grammar::added_set))]
+fn added_set<'a>(alloc: Global, cursor: &mut Cursor<'a>) -> Result<Added<'a>, Stop>
+    ensures { Reads (reading most_levels form.added_set cursor.old) result cursor.new }
+{
+    let ty = set_type(alloc, cursor)?;
+    let (read, write) = field_rights(alloc, cursor)?;
+    cursor.sign(TokenKind::Comma)?;
+    let (record, set) = set_of_record(alloc, cursor)?;
+    Ok(((ty, read, write), record, Init::OfSet(set)))
+}
+
+/// Another type with its rights, and what the field holds at first.
+#[tactic(auto, unfolding(sc_forms::specs::Reading::read, sc_tree::specs::Grammar::added_plain))]
+fn added_plain<'a>(alloc: Global, cursor: &mut Cursor<'a>) -> Result<Added<'a>, Stop>
+    ensures { Reads (reading most_levels form.added_plain cursor.old) result cursor.new }
+{
+    let ty = plain_type(alloc, cursor)?;
+    let (read, write) = field_rights(alloc, cursor)?;
+    cursor.sign(TokenKind::Comma)?;
+    let (record, value) = value_of_record(alloc, cursor)?;
+    Ok(((ty, read, write), record, Init::Plain(value)))
+}
+
+/// A type with its rights, and what the field holds at first.
+#[tactic(auto, unfolding(sc_forms::specs::Reading::read, sc_tree::specs::Grammar::set_type, sc_tree::specs::Grammar::added_set))]
+pub fn added<'a>(alloc: Global, cursor: &mut Cursor<'a>) -> Result<Added<'a>, Stop>
+    ensures { Reads (reading most_levels
+        (either form.added_set form.added_plain) cursor.old) result cursor.new }
+{
+    if cursor.sees_word(TokenKind::Upper, b"Set") {
+        return added_set(alloc, cursor);
+    }
+    added_plain(alloc, cursor)
+}

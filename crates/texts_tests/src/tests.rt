@@ -1,0 +1,54 @@
+//! Texts whose trees, or whose refusals, are known.
+
+use sc_print::{print_script, print_spec};
+use sc_texts::{SyntaxErr, parse_script, parse_spec};
+use sc_tree::{Script, Spec};
+use std::alloc::Global;
+use std::test::Fail;
+
+mod refusals;
+mod spellings;
+
+/// The specification that a text of these tests spells, each of which is short enough.
+fn spec_of(alloc: Global, text: &[u8]) -> Result<Spec, SyntaxErr> {
+    if text.len() > 1_048_576 {
+        return Err(SyntaxErr::OutOfMemory);
+    }
+    parse_spec(alloc, text)
+}
+
+/// The script that such a text spells.
+fn script_of(alloc: Global, text: &[u8]) -> Result<Script, SyntaxErr> {
+    if text.len() > 1_048_576 {
+        return Err(SyntaxErr::OutOfMemory);
+    }
+    parse_script(alloc, text)
+}
+
+/// The canonical text of the specification that a text spells.
+fn printed_spec(alloc: Global, text: &[u8]) -> Result<Vec<u8>, Fail> {
+    let spec = spec_of(alloc, text)?;
+    Ok(print_spec(&spec, alloc)?)
+}
+
+/// The canonical text of the script that a text spells.
+fn printed_script(alloc: Global, text: &[u8]) -> Result<Vec<u8>, Fail> {
+    let script = script_of(alloc, text)?;
+    Ok(print_script(&script, alloc)?)
+}
+
+/// One text again and again.
+fn repeated(
+    alloc: Global,
+    head: &[u8],
+    part: &[u8],
+    times: usize,
+    tail: &[u8],
+) -> Result<Vec<u8>, Fail> {
+    let mut text = Vec::from_slice(alloc, head)?;
+    for _ in 0..times {
+        text.extend_from_slice(part)?;
+    }
+    text.extend_from_slice(tail)?;
+    Ok(text)
+}
