@@ -1,4 +1,4 @@
-//! What stands between two signs.
+//! What stands before a sign.
 
 ghost use Rattle.sc_tree.specs.Forms.{Sign};
 ghost use Rattle.sc_forms.specs.Reading.{made, one};

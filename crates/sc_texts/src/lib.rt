@@ -1,10 +1,14 @@
-//! Specifications as texts.
+//! Specifications and scripts as texts.
 //!
-//! [`parse_spec`] gives the tree that a text spells, or a [`SyntaxErr`]: why it spells none, and where. Each production is a function that equals the reader of its form in
+//! [`parse_spec`] and [`parse_script`] give the tree that a text spells, or a [`SyntaxErr`]: why it
+//! spells none, and where. Each production is a function that equals the reader of its form in
 //! `specs/Reading.antt` of sc_forms; the laws of sc_causes say what that reader answers.
 //!
 //! - `syntax_err`: [`SyntaxErr`], and [`What`] there may be too many of.
 //! - `types`, `policies`, `models`: specifications and their parts.
+//! - `rights`, `added`: what a command gives and adds.
+//! - `of_model`, `commands`: commands that begin with the name of a model; all commands, scripts.
+//! - `closed`: what stands before a sign.
 //! - `texts`: whole texts.
 //! - `laws`: what holds of any text.
 #![tactic(auto)]

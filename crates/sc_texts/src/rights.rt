@@ -41,7 +41,8 @@ fn first_and_more(
     one: &[u8],
     two: &[u8],
 ) -> Result<Rights, Stop>
-    ensures { Reads (reading most_levels (first_and_more one.now two.now) cursor.old) result cursor.new }
+    ensures { Reads
+        (reading most_levels (first_and_more one.now two.now) cursor.old) result cursor.new }
 {
     let first = right(alloc, cursor, one)?;
     let second = second_right(alloc, cursor, two)?;
@@ -65,7 +66,8 @@ fn one_or_both(
     two: &[u8],
 ) -> Result<Rights, Stop>
     ensures { Reads (reading most_levels
-        (either (first_and_more one.now two.now) (second_alone two.now)) cursor.old) result cursor.new }
+        (either (first_and_more one.now two.now) (second_alone two.now))
+        cursor.old) result cursor.new }
 {
     if cursor.sees_word(TokenKind::Lower, one) {
         return first_and_more(alloc, cursor, one, two);
@@ -75,7 +77,8 @@ fn one_or_both(
 
 /// One right or both, in braces.
 fn rights(alloc: Global, cursor: &mut Cursor<'_>, one: &[u8], two: &[u8]) -> Result<Rights, Stop>
-    ensures { Reads (reading most_levels (form.rights one.now two.now) cursor.old) result cursor.new }
+    ensures { Reads
+        (reading most_levels (form.rights one.now two.now) cursor.old) result cursor.new }
 {
     cursor.sign(TokenKind::BraceOpen)?;
     let rights = one_or_both(alloc, cursor, one, two)?;
@@ -119,7 +122,8 @@ pub fn reasoned<T: Drop>(
     read: T,
 ) -> Result<(T, Reason), Stop>
     ensures { Reads (made (λ reason. (read, reason))
-        (reading most_levels (behind (sign k.Comma) form.reason_form) cursor.old)) result cursor.new }
+        (reading most_levels (behind (sign k.Comma) form.reason_form)
+        cursor.old)) result cursor.new }
 {
     cursor.sign(TokenKind::Comma)?;
     let reason = reason(alloc, cursor)?;
