@@ -44,7 +44,7 @@ use Rattle.sc_duty.proofs.Running.{model-of-field, command-there, run-after, fir
 
 -- ---- searches
 
-some-passes : {A : Type 0} (p : A → Bool) (xs : List A) → list_any p xs ≡ true → (k : ℕ) × (x : A) × (slice_get xs k ≡ Some x) × (p x ≡ true)
+pub some-passes : {A : Type 0} (p : A → Bool) (xs : List A) → list_any p xs ≡ true → (k : ℕ) × (x : A) × (slice_get xs k ≡ Some x) × (p x ≡ true)
 some-passes p [] h = cc
 some-passes p (y ∷ xs) h =
     elim (or-true (p y) _ h) [
@@ -53,7 +53,7 @@ some-passes p (y ∷ xs) h =
     ]
 
 -- an id that passes
-some-id : (p : ℕ → Bool) (ids : List ℕ) → list_any p ids ≡ true → (id : ℕ) × (p id ≡ true) × (list_any (λ i. i == id) ids ≡ true)
+pub some-id : (p : ℕ → Bool) (ids : List ℕ) → list_any p ids ≡ true → (id : ℕ) × (p id ≡ true) × (list_any (λ i. i == id) ids ≡ true)
 some-id p [] h = cc
 some-id p (y ∷ ids) h =
     elim (or-true (p y) _ h) [
@@ -63,7 +63,7 @@ some-id p (y ∷ ids) h =
           (x.0, x.1, (elim (y == x.0) as (λ (b : Bool). (b || list_any (λ i. i == x.0) ids) ≡ true) [ true ↦ refl | false ↦ x.2 ]))
     ]
 
-id-passes : (p : ℕ → Bool) (ids : List ℕ) (id : ℕ) → list_any (λ i. i == id) ids ≡ true → p id ≡ true → list_any p ids ≡ true
+pub id-passes : (p : ℕ → Bool) (ids : List ℕ) (id : ℕ) → list_any (λ i. i == id) ids ≡ true → p id ≡ true → list_any p ids ≡ true
 id-passes p [] id h k = cc
 id-passes p (y ∷ ids) id h k =
     elim (y == id) as (λ (b : Bool). (y == id) ≡ b → (b || list_any (λ i. i == id) ids) ≡ true → (p y || list_any p ids) ≡ true) [
@@ -123,7 +123,7 @@ module _ (t : Script) (is : IsScript t) (d : Database) (start : IsStart t d) whe
   ids-after n now (update_model m create delete) h = refl
   ids-after n now (weaken_model m create delete reason) h = refl
 
-  kind-ids : (n k j : ℕ) → k ≤ count t → j ≤ k → is_dropped (kind.Model n) (take k t.commands) ≡ false → ids_of (run_to t j d) n ≡ ids_of d n
+  pub kind-ids : (n k j : ℕ) → k ≤ count t → j ≤ k → is_dropped (kind.Model n) (take k t.commands) ≡ false → ids_of (run_to t j d) n ≡ ids_of d n
   kind-ids n k zero within less none = refl
   kind-ids n k (suc j) within less none =
       let c = command-there t is j (omega (arith, within, less)) in
@@ -138,7 +138,7 @@ module _ (t : Script) (is : IsScript t) (d : Database) (start : IsStart t d) whe
         | Some i ↦ λ e. refl
       ] h
 
-  kind-model : (n k : ℕ) → is_kind_at t k (kind.Model n) ≡ true → HasModel t.start n
+  pub kind-model : (n k : ℕ) → is_kind_at t k (kind.Model n) ≡ true → HasModel t.start n
   kind-model n k h =
       let one = some-passes (λ s. has_kind s (kind.Model n)) t.schemas (and-left _ _ h) in
       let same : schema_at t one.0 ≡ one.1 = get_or_from_slice_get t.schemas one.0 one.1 t.start one.2 in
@@ -152,7 +152,7 @@ module _ (t : Script) (is : IsScript t) (d : Database) (start : IsStart t d) whe
     abbrev db : Structure
     db = structure_of t.start d
 
-    right-true : (xs : List ℕ) (id : ℕ) (r : Term) → IsTermOf t.start db d xs (base.Id (model_of_target target)) (Id id) r
+    pub right-true : (xs : List ℕ) (id : ℕ) (r : Term) → IsTermOf t.start db d xs (base.Id (model_of_target target)) (Id id) r
         → (q : Principal) (w : Who) → IsWho t.start db d xs q w → (sign : Bool)
         → truth db xs (has_right t k target right r w sign (length xs)) ≡ same_truth sign (has_right_at t k target right d id q)
     right-true xs id r it q w is_who sign =

@@ -1,10 +1,16 @@
 pub mod Adding
 pub mod Ends
+pub mod Failing
+pub mod Flows
 pub mod Gains
 pub mod Meanings
 pub mod Means
+pub mod ReadCells
+pub mod Reached
 pub mod Running
 pub mod Signed
+pub mod Sources
 pub mod Starting
 pub mod Truths
+pub mod UsedCells
 pub mod WorkedFormulas

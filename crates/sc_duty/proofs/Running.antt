@@ -37,7 +37,7 @@ use Rattle.sc_duty.proofs.Meanings.{Shows}
 use Rattle.sc_duty.proofs.Starting.{find-front, find-behind, shows-itself}
 use Rattle.sc_duty.proofs.Adding.{written-more, written-kept, none-written, added-split, field-new, init-means, init-typed}
 
-has-field : (s : Schema) (m f : ℕ) (t : TTy) → type_of s m f ≡ Some t → (g : FieldInfo) × (field_of s m f ≡ Some g)
+pub has-field : (s : Schema) (m f : ℕ) (t : TTy) → type_of s m f ≡ Some t → (g : FieldInfo) × (field_of s m f ≡ Some g)
 has-field s m f t h =
     elim (field_of s m f) as (λ (o : Option FieldInfo). option_map (λ (g : FieldInfo). g.ty) o ≡ Some t → (g : FieldInfo) × (o ≡ Some g)) [
       | None ↦ λ e. cc
@@ -228,7 +228,7 @@ none-filtered {A} p keep (x ∷ xs) h =
           ]
     ] refl h
 
-all-mapped : {A B : Type 0} (P : B → Type 0) (g : A → B) (xs : List A) → AllByRecursion P (map g xs) → AllByRecursion (λ x. P (g x)) xs
+pub all-mapped : {A B : Type 0} (P : B → Type 0) (g : A → B) (xs : List A) → AllByRecursion P (map g xs) → AllByRecursion (λ x. P (g x)) xs
 all-mapped P g [] h = tt
 all-mapped P g (x ∷ xs) h = (h.0, all-mapped P g xs h.1)
 
@@ -294,7 +294,7 @@ module _ (t : Script) (is : IsScript t) where
   next-after s (weaken_model n create delete reason) = omega arith
 
   -- from after j commands on
-  next-rises : (j n : ℕ) → j + n ≤ count t → (schema_at t j).next_model ≤ (schema_at t (j + n)).next_model
+  pub next-rises : (j n : ℕ) → j + n ≤ count t → (schema_at t j).next_model ≤ (schema_at t (j + n)).next_model
   next-rises j zero within = let same : j + 0 ≡ j = omega arith in subst (λ (k : ℕ). (schema_at t j).next_model ≤ (schema_at t k).next_model) (sym same) (omega arith)
   next-rises j (suc n) within =
       let step : j + suc n ≡ suc (j + n) = omega arith in
@@ -401,7 +401,7 @@ module _ (t : Script) (is : IsScript t) where
     slots : (m id : ℕ) → from ≤ m → slots_of now m id ≡ slots_of d m id
     ids : (m : ℕ) → from ≤ m → ids_of now m ≡ ids_of d m
 
-  model-early : (k m : ℕ) → k ≤ count t → HasModel (schema_at t k) m → m < (schema_at t k).next_model
+  pub model-early : (k m : ℕ) → k ≤ count t → HasModel (schema_at t k) m → m < (schema_at t k).next_model
   model-early k m within h =
       elim (model_of (schema_at t k) m) as (λ (o : Option ModelInfo). model_of (schema_at t k) m ≡ o → is_some o ≡ true → m < (schema_at t k).next_model) [
         | None ↦ λ here e. cc

@@ -1,6 +1,9 @@
 //! Laws over the definitions alone. Each is the contract of a function that does nothing.
 
+ghost use Rattle.sc_duty.specs.Failing.{FalseFormulasSecure};
+ghost use Rattle.sc_duty.specs.Flows.{FlowFormulasAreTrue};
 ghost use Rattle.sc_duty.specs.Gains.{GainFormulasAreTrue};
+ghost use Rattle.sc_duty.specs.Reads.{UsesRead};
 ghost use Rattle.sc_duty.specs.Truths.{FormulasAreTrue};
 ghost use Rattle.sc_duty.specs.Worked.{ExpandedIsCounted, WorkedFormulas};
 
@@ -14,6 +17,24 @@ pub fn formulas_are_true()
 /// where some principal of its kind gains the right at its command.
 pub fn gain_formulas_are_true()
     ensures { GainFormulasAreTrue }
+{}
+
+/// On each start database of a script, the formula of an obligation against flow leaks is true
+/// exactly where some principal of its kind may read the added field on a record and may not read
+/// a cell that the use reads there.
+pub fn flow_formulas_are_true()
+    ensures { FlowFormulasAreTrue }
+{}
+
+/// A script is secure at each of its commands where no formula of one of its obligations is true on
+/// the structure of a start database.
+pub fn false_formulas_secure()
+    ensures { FalseFormulasSecure }
+{}
+
+/// What an initialiser touches on a database is what its uses of fields read.
+pub fn uses_read_what_is_touched()
+    ensures { UsesRead }
 {}
 
 /// Worked formulas and sizes, which show what the definitions give on a schema of users.
