@@ -27,6 +27,7 @@ use Rattle.sc_data.proofs.Finds.{find-holds, find-among}
 use Rattle.sc_eval.specs.declared.cells.Cell.{Cell}
 use Rattle.sc_eval.specs.Run.{run_to}
 use Rattle.sc_eval.specs.Gain.{IsStart, kind_of, is_principal_at, same_target, gives_field, gives_model, updates, GainAt, FlowAt}
+use Rattle.sc_eval.specs.Secure.{IsStepSecure}
 use Rattle.sc_eval.proofs.Tests.{and-left, and-right}
 use Rattle.sc_formula.specs.Truth.{truth}
 use Rattle.sc_duty.specs.declared.duty.Duty.{Duty}
@@ -35,7 +36,7 @@ use Rattle.sc_duty.specs.Duties.{gains_at, flows_at, obligations_at, obligations
 use Rattle.sc_duty.specs.Reads.{init_read_by}
 use Rattle.sc_duty.specs.Gains.{IsGainDuty}
 use Rattle.sc_duty.specs.Flows.{cell_of, IsFlowDuty}
-use Rattle.sc_duty.specs.Failing.{NoneFails, FalseFormulasSecure}
+use Rattle.sc_duty.specs.Failing.{NoneFails}
 use Rattle.sc_duty.proofs.Running.{all-mapped, command-there, next-rises, model-early}
 use Rattle.sc_duty.proofs.Gains.{some-passes, true_gains}
 use Rattle.sc_duty.proofs.Flows.{true_flows}
@@ -43,10 +44,10 @@ use Rattle.sc_duty.proofs.UsedCells.{uses-read}
 
 -- ---- lists
 
-no-element : {X : Type 0} {A : Type 0} (x : X) → Contains [] x → A
+pub no-element : {X : Type 0} {A : Type 0} (x : X) → Contains [] x → A
 no-element x h = absurd (omega (arith, h.1))
 
-in-tail : {X : Type 0} (y : X) (xs : List X) (x : X) → Contains xs x → Contains (y ∷ xs) x
+pub in-tail : {X : Type 0} (y : X) (xs : List X) (x : X) → Contains xs x → Contains (y ∷ xs) x
 in-tail y xs x h = (suc h.0, omega (arith, h.1), h.2)
 
 in-mapped : {X Y : Type 0} (f : X → Y) (xs : List X) (x : X) → Contains xs x → Contains (map f xs) (f x)
@@ -107,7 +108,7 @@ of-model k kinds n create delete a there Create h =
 of-model k kinds n create delete a there Delete h =
     Contains-append_right (gains_at k kinds (on.Model n) Create create) (gains_at k kinds (on.Model n) Delete delete) _ (in-given k kinds (on.Model n) Delete delete a h there)
 
-of-updated : (k : ℕ) (kinds : List Kind) (target : Target) (right : Right) (c : Command) (a : Kind) → updates target right c ≡ true → Contains kinds a
+pub of-updated : (k : ℕ) (kinds : List Kind) (target : Target) (right : Right) (c : Command) (a : Kind) → updates target right c ≡ true → Contains kinds a
     → Contains (obligations_at k kinds c) (record { command = k; target = target; right = right; spot = None; kind = a })
 of-updated k kinds target right (create_model info) a h there = cc
 of-updated k kinds target right (delete_model n) a h there = cc
@@ -132,7 +133,7 @@ of-updated k kinds (on.Model m) right (update_model n create delete) a h there =
     (of-model k kinds n create delete a there right (and-right (m == n) _ h))
 of-updated k kinds target right (weaken_model n create delete reason) a h there = cc
 
-of-added : (k : ℕ) (kinds : List Kind) (target : Target) (init : Init) (spot : ℕ) (a : Kind) → 1 ≤ spot → spot ≤ length (init_uses_of init) → Contains kinds a
+pub of-added : (k : ℕ) (kinds : List Kind) (target : Target) (init : Init) (spot : ℕ) (a : Kind) → 1 ≤ spot → spot ≤ length (init_uses_of init) → Contains kinds a
     → Contains (flows_at k kinds target init) (record { command = k; target = target; right = Read; spot = Some spot; kind = a })
 of-added k kinds target init spot a low high there =
     in-flat (λ n. map (λ a. record { command = k; target = target; right = Read; spot = Some n; kind = a }) kinds) (range_with_len 1 (length (init_uses_of init))) spot
@@ -148,7 +149,7 @@ marked s n h =
     ] h
 
 module _ (t : Script) (is : IsScript t) where
-  of-command : (k : ℕ) (c : Command) (duty : Duty) → 1 ≤ k → command_at t (k - 1) ≡ Some c → Contains (obligations_at k (kinds_at t k) c) duty → Contains (obligations_of t) duty
+  pub of-command : (k : ℕ) (c : Command) (duty : Duty) → 1 ≤ k → command_at t (k - 1) ≡ Some c → Contains (obligations_at k (kinds_at t k) c) duty → Contains (obligations_of t) duty
   of-command k c duty low here h =
       let below = slice_get_within t.commands (k - 1) c here in
       in-flat (λ k. option_map_or (obligations_at k (kinds_at t k)) (command_at t (k - 1)) []) (range_with_len 1 (count t)) k duty
@@ -207,7 +208,7 @@ module _ (t : Script) (is : IsScript t) where
       let below = model-early t is j n within h in
       omega (arith, below, rises)
 
-  kind-listed : (k : ℕ) (a : Kind) → is_kind_at t k a ≡ true → Contains (kinds_at t k) a
+  pub kind-listed : (k : ℕ) (a : Kind) → is_kind_at t k a ≡ true → Contains (kinds_at t k) a
   kind-listed k a h =
       in-filtered (is_kind_at t k)
       (map (λ n. kind.Static n) (numbers_below (schema_at t (count t)).next_static) ++ map (λ m. kind.Model m) (numbers_below (schema_at t (count t)).next_model)) a (of-number a h) h
@@ -282,5 +283,5 @@ module _ (t : Script) (is : IsScript t) where
         let never : true ≡ false = sym true_there ∙ none duty listed d g.start in
         cc
 
-pub secure_where_false : FalseFormulasSecure
+pub secure_where_false : (t : Script) → IsScript t → NoneFails t → IsStepSecure t
 secure_where_false t is none = record { no_gain = no-gain t is none; no_flow = no-flow t is none }

@@ -3,6 +3,7 @@ pub mod Ends
 pub mod Failing
 pub mod Flows
 pub mod Gains
+pub mod Listed
 pub mod Meanings
 pub mod Means
 pub mod ReadCells
@@ -11,6 +12,7 @@ pub mod Running
 pub mod Signed
 pub mod Sources
 pub mod Starting
+pub mod StepSecure
 pub mod Truths
 pub mod UsedCells
 pub mod WorkedFormulas

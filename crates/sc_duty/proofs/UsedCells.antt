@@ -134,6 +134,7 @@ module _ (T : Cell → Bool) where
       or-last : (a b : Bool) → b ≡ true → (a || b) ≡ true
       or-last true b e = refl
       or-last false b e = e
+
       own : (p : Bool) → list_any T (if p then xs y else []) ≡ true → Found us (λ n. if p then f y n else [])
       own true e = k y e
       own false e = cc

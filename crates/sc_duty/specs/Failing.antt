@@ -1,5 +1,5 @@
 -- Scripts none of whose obligations fails.
-use Rattle.std.specs.Prelude.{◌≡◌, false, [], Contains}
+use Rattle.std.specs.Prelude.{◌≡◌, ◌↔◌, false, [], Contains}
 use Rattle.sc_schema.specs.Script.{Script, IsScript}
 use Rattle.sc_data.specs.Database.{Database}
 use Rattle.sc_eval.specs.Gain.{IsStart}
@@ -14,6 +14,6 @@ abbrev pub NoneFails : Script → Type 0
 NoneFails t =
     (duty : Duty) → Contains (obligations_of t) duty → (d : Database) → IsStart t d → truth (structure_of t.start d) [] (formula_of t duty) ≡ false
 
--- Where that is so, no command of the script gains anybody a right that it updates, and no added field leaks.
+-- That is so exactly where no command of the script gains anybody a right that it updates, and no added field leaks.
 abbrev pub FalseFormulasSecure : Type 0
-FalseFormulasSecure = (t : Script) → IsScript t → NoneFails t → IsStepSecure t
+FalseFormulasSecure = (t : Script) → IsScript t → NoneFails t ↔ IsStepSecure t

@@ -4,6 +4,7 @@ pub mod Failing
 pub mod Flows
 pub mod Formulas
 pub mod Gains
+pub mod Listed
 pub mod Public
 pub mod Reach
 pub mod Reads

@@ -10,4 +10,5 @@ pub use Rattle.sc_duty.specs.Gains.{IsGainDuty, GainsSomebody, GainFormulasAreTr
 pub use Rattle.sc_duty.specs.Reads.{read_by, set_read_by, init_read_by, IsUsed, UsesRead}
 pub use Rattle.sc_duty.specs.Flows.{cell_of, IsFlowDuty, LeaksToSomebody, FlowFormulasAreTrue}
 pub use Rattle.sc_duty.specs.Failing.{NoneFails, FalseFormulasSecure}
+pub use Rattle.sc_duty.specs.Listed.{IsUseDuty, IsObligation, ObligationsAreListed}
 pub use Rattle.sc_duty.specs.Worked.{WorkedFormulas, ExpandedIsCounted}

@@ -3,6 +3,7 @@
 ghost use Rattle.sc_duty.specs.Failing.{FalseFormulasSecure};
 ghost use Rattle.sc_duty.specs.Flows.{FlowFormulasAreTrue};
 ghost use Rattle.sc_duty.specs.Gains.{GainFormulasAreTrue};
+ghost use Rattle.sc_duty.specs.Listed.{ObligationsAreListed};
 ghost use Rattle.sc_duty.specs.Reads.{UsesRead};
 ghost use Rattle.sc_duty.specs.Truths.{FormulasAreTrue};
 ghost use Rattle.sc_duty.specs.Worked.{ExpandedIsCounted, WorkedFormulas};
@@ -26,8 +27,14 @@ pub fn flow_formulas_are_true()
     ensures { FlowFormulasAreTrue }
 {}
 
-/// A script is secure at each of its commands where no formula of one of its obligations is true on
-/// the structure of a start database.
+/// The list of a script's obligations has just those: of each right that a command updates, and of
+/// each use in the initialiser of a field that a command adds, with each kind at the command.
+pub fn obligations_are_listed()
+    ensures { ObligationsAreListed }
+{}
+
+/// No formula of an obligation of a script is true on the structure of a start database exactly
+/// where the script is secure at each of its commands.
 pub fn false_formulas_secure()
     ensures { FalseFormulasSecure }
 {}
