@@ -37,8 +37,9 @@ use Rattle.sc_duty.specs.Reads.{init_read_by}
 use Rattle.sc_duty.specs.Gains.{IsGainDuty}
 use Rattle.sc_duty.specs.Flows.{cell_of, IsFlowDuty}
 use Rattle.sc_duty.specs.Failing.{NoneFails}
-use Rattle.sc_duty.proofs.Running.{all-mapped, command-there, next-rises, model-early}
-use Rattle.sc_duty.proofs.Gains.{some-passes, true_gains}
+use Rattle.sc_duty.proofs.Shown.{some-passes}
+use Rattle.sc_duty.proofs.Created.{all-mapped, command-there, next-rises, model-early}
+use Rattle.sc_duty.proofs.Gains.{true_gains}
 use Rattle.sc_duty.proofs.Flows.{true_flows}
 use Rattle.sc_duty.proofs.UsedCells.{uses-read}
 

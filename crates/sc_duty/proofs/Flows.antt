@@ -47,8 +47,10 @@ use Rattle.sc_duty.proofs.Signed.{exists-truth}
 use Rattle.sc_duty.proofs.Means.{IsPrefix, prefix-more, IsTermOf, IsWho, term-more, who-more}
 use Rattle.sc_duty.proofs.Meanings.{Shows, next-is}
 use Rattle.sc_duty.proofs.Starting.{find-front}
-use Rattle.sc_duty.proofs.Running.{has-field, command-there, first-shown, shown-at, shows-all, shown-field, shown-model, model-of-start}
-use Rattle.sc_duty.proofs.Gains.{some-passes, some-id, id-passes, kind-model, kind-ids, right-true}
+use Rattle.sc_duty.proofs.Shown.{has-field, some-passes, shows-all, shown-field, shown-model}
+use Rattle.sc_duty.proofs.Created.{model-of-start, kind-model}
+use Rattle.sc_duty.proofs.Running.{first-shown, shown-at}
+use Rattle.sc_duty.proofs.Gains.{some-id, id-passes, kind-ids, right-true}
 use Rattle.sc_duty.proofs.ReadCells.{init-touches}
 use Rattle.sc_duty.proofs.Reached.{is_at, init-reached}
 use Rattle.sc_duty.proofs.Sources.{init-there}
@@ -171,7 +173,7 @@ module _ (t : Script) (is : IsScript t) (duty : Duty) (spot m : ℕ) (f : FieldI
   same-model = ap model_of_target of.target
 
   start-there : HasModel t.start mt
-  start-there = subst (λ (n : ℕ). HasModel t.start n) (sym same-model) (model-of-start t is d start (k - 1) (omega (arith, below)) m asks.0)
+  start-there = subst (λ (n : ℕ). HasModel t.start n) (sym same-model) (model-of-start t is (k - 1) (omega (arith, below)) m asks.0)
 
   now-ids : ids_of now mt ≡ ids_of d mt
   now-ids = subst (λ (n : ℕ). ids_of now n ≡ ids_of d n) (sym same-model) (earlier-shown.ids m asks.0)
@@ -262,7 +264,7 @@ module _ (t : Script) (is : IsScript t) (duty : Duty) (spot m : ℕ) (f : FieldI
   kind-true (kind.Static n) h x id got =
       source-true (x ∷ []) id (next-is t.start t.start nothing_written st d d all-shown mt start-there [] x id got) (who.Static n) (static n) refl 1 refl
   kind-true (kind.Model n) h x id got =
-      let model = kind-model t is d start n k h in
+      let model = kind-model t is n k h in
       let first = next-is t.start t.start nothing_written st d d all-shown mt start-there [] x id got in
       exists-truth st (x ∷ []) true (sort_of t.start n)
       (for_some t at.model 2 (λ y. body (record_at n (bound (sort_of t.start n) 1)) y 3))

@@ -40,17 +40,11 @@ use Rattle.sc_duty.specs.Gains.{IsGainDuty, GainsSomebody, GainFormulasAreTrue}
 use Rattle.sc_duty.proofs.Signed.{same-unsign, constant-truth, exists-truth}
 use Rattle.sc_duty.proofs.Means.{prefix-more, IsTermOf, IsWho, term-more}
 use Rattle.sc_duty.proofs.Meanings.{Shows, next-is, allowed-means}
-use Rattle.sc_duty.proofs.Running.{model-of-field, command-there, run-after, first-shown, shown-at, model-of-start}
+use Rattle.sc_duty.proofs.Shown.{model-of-field}
+use Rattle.sc_duty.proofs.Created.{command-there, run-after, model-of-start, kind-model}
+use Rattle.sc_duty.proofs.Running.{first-shown, shown-at}
 
 -- ---- searches
-
-pub some-passes : {A : Type 0} (p : A → Bool) (xs : List A) → list_any p xs ≡ true → (k : ℕ) × (x : A) × (slice_get xs k ≡ Some x) × (p x ≡ true)
-some-passes p [] h = cc
-some-passes p (y ∷ xs) h =
-    elim (or-true (p y) _ h) [
-      | inl here ↦ (0, y, refl, here)
-      | inr later ↦ let one = some-passes p xs later in (suc one.0, one.1, one.2, one.3)
-    ]
 
 -- an id that passes
 pub some-id : (p : ℕ → Bool) (ids : List ℕ) → list_any p ids ≡ true → (id : ℕ) × (p id ≡ true) × (list_any (λ i. i == id) ids ≡ true)
@@ -131,21 +125,6 @@ module _ (t : Script) (is : IsScript t) (d : Database) (start : IsStart t d) whe
       ∙ ids-after n (run_to t j d) c.0 (none-taken (λ x. option_map_or (same_kind (kind.Model n)) (dropped_by x) false) t.commands k j c.0 none c.1 (omega (arith, less)))
       ∙ kind-ids n k j within (omega (arith, less)) none
 
-  principal-there : (s : Schema) (n : ℕ) → has_kind s (kind.Model n) ≡ true → HasModel s n
-  principal-there s n h =
-      elim (model_of s n) as (λ (o : Option ModelInfo). option_map_or (λ (i : ModelInfo). i.principal) o false ≡ true → is_some o ≡ true) [
-        | None ↦ λ e. cc
-        | Some i ↦ λ e. refl
-      ] h
-
-  pub kind-model : (n k : ℕ) → is_kind_at t k (kind.Model n) ≡ true → HasModel t.start n
-  kind-model n k h =
-      let one = some-passes (λ s. has_kind s (kind.Model n)) t.schemas (and-left _ _ h) in
-      let same : schema_at t one.0 ≡ one.1 = get_or_from_slice_get t.schemas one.0 one.1 t.start one.2 in
-      let number = slice_get_within t.schemas one.0 one.1 one.2 in
-      let within : one.0 ≤ count t = omega (arith, number, is.schemas) in
-      model-of-start t is d start one.0 within n (subst (λ (s : Schema). HasModel s n) (sym same) (principal-there one.1 n one.3))
-
   -- ---- rights
 
   module _ (k : ℕ) (within : k ≤ count t) (target : Target) (right : Right) where
@@ -214,7 +193,7 @@ module _ (t : Script) (is : IsScript t) (duty : Duty) (of : IsGainDuty t duty) (
   now-ids = ap (λ (e : Database). ids_of e m) of-command.same ∙ before-shows.ids m of-command.there
 
   start-there : HasModel t.start m
-  start-there = model-of-start t is d start (k - 1) (omega (arith, within)) m of-command.there
+  start-there = model-of-start t is (k - 1) (omega (arith, within)) m of-command.there
 
   -- at a record and a principal
   pair-true : (xs : List ℕ) (id : ℕ) (r : Term) → IsTermOf t.start st d xs (base.Id m) (Id id) r → (q : Principal) (w : Who) → IsWho t.start st d xs q w
@@ -236,7 +215,7 @@ module _ (t : Script) (is : IsScript t) (duty : Duty) (of : IsGainDuty t duty) (
   kind-true (kind.Static n) h x id got =
       pair-true (x ∷ []) id (bound (sort_of t.start m) 0) (next-is t.start t.start nothing_written st d d all-shown m start-there [] x id got) (who.Static n) (static n) refl
   kind-true (kind.Model n) h x id got =
-      let model = kind-model t is d start n k h in
+      let model = kind-model t is n k h in
       let first = next-is t.start t.start nothing_written st d d all-shown m start-there [] x id got in
       exists-truth st (x ∷ []) true (sort_of t.start n)
       (both (has_right t k duty.target duty.right (bound (sort_of t.start m) 0) (record_at n (bound (sort_of t.start n) 1)) true 2)

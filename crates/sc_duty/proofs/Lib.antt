@@ -1,4 +1,5 @@
 pub mod Adding
+pub mod Created
 pub mod Ends
 pub mod Failing
 pub mod Flows
@@ -6,9 +7,13 @@ pub mod Gains
 pub mod Listed
 pub mod Meanings
 pub mod Means
+pub mod OverCases
+pub mod OverFormulas
+pub mod OverReach
 pub mod ReadCells
 pub mod Reached
 pub mod Running
+pub mod Shown
 pub mod Signed
 pub mod Sources
 pub mod Starting

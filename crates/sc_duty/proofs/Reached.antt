@@ -48,7 +48,7 @@ eq-swap a b =
 
 -- ---- parts
 
-get-parts : (us vs : List Use) (n : ℕ) (x : Use) → slice_get (us ++ vs) n ≡ Some x
+pub get-parts : (us vs : List Use) (n : ℕ) (x : Use) → slice_get (us ++ vs) n ≡ Some x
     → ((n < length us) × (slice_get us n ≡ Some x)) ⊎ ((length us ≤ n) × (slice_get vs (n - length us) ≡ Some x))
 get-parts [] vs n x h = let same : n - 0 ≡ n = omega arith in inr (omega arith, ap (slice_get vs) same ∙ h)
 get-parts (u ∷ us) vs zero x h = inl (omega arith, h)
