@@ -62,7 +62,7 @@ same-test : (m0 m : ℕ) (g : FieldInfo) (i : ModelInfo) → ((let u : ModelInfo
 same-test m0 m g i =
     elim (i.number == m0) as (λ (b : Bool). ((let u : ModelInfo = if b then with_field g i else i in u.number) == m) ≡ (i.number == m)) [ true ↦ refl | false ↦ refl ]
 
-type-stays : (s : Schema) (m0 : ℕ) (g : FieldInfo) (init : Init) (m f : ℕ) (ty : TTy) → type_of s m f ≡ Some ty → type_of (schema_after s (add_field m0 g init)) m f ≡ Some ty
+pub type-stays : (s : Schema) (m0 : ℕ) (g : FieldInfo) (init : Init) (m f : ℕ) (ty : TTy) → type_of s m f ≡ Some ty → type_of (schema_after s (add_field m0 g init)) m f ≡ Some ty
 type-stays s m0 g init m f ty h =
     let there = has-field s m f ty h in
     let found = found-field s m f there.0 there.1 in
@@ -77,7 +77,7 @@ type-stays s m0 g init m f ty h =
     ])
     ∙ sym same ∙ h
 
-model-stays : (s : Schema) (m0 : ℕ) (g : FieldInfo) (init : Init) (m : ℕ) → HasModel s m → HasModel (schema_after s (add_field m0 g init)) m
+pub model-stays : (s : Schema) (m0 : ℕ) (g : FieldInfo) (init : Init) (m : ℕ) → HasModel s m → HasModel (schema_after s (add_field m0 g init)) m
 model-stays s m0 g init m h =
     let new : ModelInfo → ModelInfo = λ i. if i.number == m0 then with_field g i else i in
     ap is_some (find-map (λ (i : ModelInfo). i.number == m) new s.models (same-test m0 m g))

@@ -78,7 +78,7 @@ same-number m n h = eqb-true m n h
 -- ---- the command
 
 -- a command that updates a right is on a model that is there, and leaves the database as it is
-updated-there : (s : Schema) (target : Target) (right : Right) (c : Command) → updates target right c ≡ true → IsCommand s c
+pub updated-there : (s : Schema) (target : Target) (right : Right) (c : Command) → updates target right c ≡ true → IsCommand s c
     → HasModel s (model_of_target target) × ((now : Database) → after_command c now ≡ now)
 updated-there s target right (create_model info) h e = cc
 updated-there s target right (delete_model n) h e = cc

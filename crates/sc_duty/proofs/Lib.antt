@@ -16,6 +16,7 @@ pub mod Running
 pub mod Shown
 pub mod Signed
 pub mod Sources
+pub mod Speaking
 pub mod Starting
 pub mod StepSecure
 pub mod Truths

@@ -5,6 +5,7 @@ pub mod Flows
 pub mod Formulas
 pub mod Gains
 pub mod Listed
+pub mod Over
 pub mod Public
 pub mod Reach
 pub mod Reads

@@ -4,6 +4,7 @@ ghost use Rattle.sc_duty.specs.Failing.{FalseFormulasSecure};
 ghost use Rattle.sc_duty.specs.Flows.{FlowFormulasAreTrue};
 ghost use Rattle.sc_duty.specs.Gains.{GainFormulasAreTrue};
 ghost use Rattle.sc_duty.specs.Listed.{ObligationsAreListed};
+ghost use Rattle.sc_duty.specs.Over.{FormulasAreOver};
 ghost use Rattle.sc_duty.specs.Reads.{UsesRead};
 ghost use Rattle.sc_duty.specs.Truths.{FormulasAreTrue};
 ghost use Rattle.sc_duty.specs.Worked.{ExpandedIsCounted, WorkedFormulas};
@@ -31,6 +32,12 @@ pub fn flow_formulas_are_true()
 /// each use in the initialiser of a field that a command adds, with each kind at the command.
 pub fn obligations_are_listed()
     ensures { ObligationsAreListed }
+{}
+
+/// The formula of each obligation of a script is closed, and over the signature of the schema of
+/// its start databases.
+pub fn formulas_are_over()
+    ensures { FormulasAreOver }
 {}
 
 /// No formula of an obligation of a script is true on the structure of a start database exactly

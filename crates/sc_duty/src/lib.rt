@@ -16,6 +16,7 @@
 //! | `specs/Gains.antt` | where the formula of an obligation against gains is true |
 //! | `specs/Reads.antt`, `specs/Flows.antt` | what a use reads, and where the formula of an obligation against flow leaks is true |
 //! | `specs/Listed.antt` | what the obligations in the list are |
+//! | `specs/Over.antt` | that formulas are closed and over the signature |
 //! | `specs/Failing.antt` | scripts none of whose obligations fails |
 //! | `specs/Truths.antt` | the formulas of conditions and policies tell what they mean |
 #![tactic(auto)]
@@ -25,6 +26,7 @@ mod laws;
 
 pub use duty::Duty;
 pub use laws::{
-    expanded_is_counted, false_formulas_secure, flow_formulas_are_true, formulas_are_true,
-    gain_formulas_are_true, obligations_are_listed, uses_read_what_is_touched, worked_formulas,
+    expanded_is_counted, false_formulas_secure, flow_formulas_are_true, formulas_are_over,
+    formulas_are_true, gain_formulas_are_true, obligations_are_listed, uses_read_what_is_touched,
+    worked_formulas,
 };
