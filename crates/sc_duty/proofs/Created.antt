@@ -1,45 +1,24 @@
 -- Slots of records, and models that a script creates.
 use Rattle.std.proofs.Common.{◌≡◌, ℕ, zero, suc, ◌+◌, ◌-◌, ◌<◌, ◌≤◌, Bool, true, false, not, List, [], ◌∷◌, ◌++◌, length, ◌⊎◌, refl, ap, sym, ◌∙◌, subst, arith, cond, inl, inr}
 use Rattle.std.specs.Prelude.{Option, Some, None, map, filter, ◌==◌, is_some, slice_get, option_and_then}
-use Rattle.std.specs.List.{find, list_any, AllByRecursion}
+use Rattle.std.specs.List.{find, AllByRecursion}
 use Rattle.std.specs.Option.{option_map, option_map_or}
 use Rattle.std.proofs.lemmas.Bool.{eqb-true, eq-eqb, false_from_ne_true}
 use Rattle.std.proofs.lemmas.Option.{slice_get_cases, slice_get_within, get_or_from_slice_get}
-use Rattle.sc_schema.specs.declared.types.TBase.TheVariants as base
 use Rattle.sc_schema.specs.declared.types.TTy.{TTy}
-use Rattle.sc_schema.specs.declared.types.TTy.TheVariants.{Set}
-use Rattle.sc_schema.specs.Trees.{Init}
-use Rattle.sc_schema.specs.Schema.{FieldInfo, ModelInfo, Added, Schema, model_in, field_in, model_of, field_of, type_of}
-use Rattle.sc_schema.specs.Typing.{HasModel, IsInit, IsType}
-use Rattle.sc_schema.specs.Commands.{Command, create_model, delete_model, add_static, remove_static, add_principal, add_field, remove_field, update_field, weaken_field, update_model, weaken_model, change_model, with_field, without_field, with_field_policies, with_model_policies, schema_after, AreNumberedFrom, IsCommand}
-use Rattle.sc_schema.specs.Proper.{AreProperFields, IsProper}
+use Rattle.sc_schema.specs.Schema.{FieldInfo, ModelInfo, Schema, model_in, field_in, model_of, type_of}
+use Rattle.sc_schema.specs.Typing.{HasModel}
+use Rattle.sc_schema.specs.Commands.{Command, create_model, delete_model, add_static, remove_static, add_principal, add_field, remove_field, update_field, weaken_field, update_model, weaken_model, with_field, schema_after, AreNumberedFrom, IsCommand}
 use Rattle.sc_schema.specs.declared.rights.Kind.TheVariants as kind
 use Rattle.sc_schema.specs.Kinds.{has_kind, is_kind_at}
 use Rattle.sc_eval.proofs.Tests.{and-left}
 use Rattle.sc_schema.specs.Script.{Script, schema_at, command_at, count, closed_field, closed_model, created_by, created, IsScript}
-use Rattle.sc_data.specs.Values.{Value, Nothing}
-use Rattle.sc_data.specs.Database.{Slot, Record, Table, Database, table_of, records_of, slots_of, ids_of, has_record, field_at, AreSlots, IsRecordIn, HasTable, IsDatabase}
-use Rattle.sc_data.proofs.Finds.{find-holds, find-among, find-none, find-map, find-last}
-use Rattle.sc_eval.specs.Meaning.{id_of}
+use Rattle.sc_data.specs.Database.{Slot, Record, Table, Database, table_of, records_of, slots_of, ids_of, AreSlots, IsRecordIn, HasTable, IsDatabase}
+use Rattle.sc_data.proofs.Finds.{find-holds, find-among, find-map, find-last}
 use Rattle.sc_eval.specs.Run.{init_value, after_command, after_if_any, run_to, change_slots}
-use Rattle.sc_eval.specs.Gain.{IsStart}
-use Rattle.sc_eval.proofs.Agreement.{Agree}
 use Rattle.sc_eval.proofs.Changes.{ids-changed, slots-changed, table-kept}
-use Rattle.sc_eval.proofs.Kept.{found-field, field-typed, field-below, model-below}
-use Rattle.sc_eval.proofs.Meanings.{agree-added, agree-removed, agree-deleted}
-use Rattle.sc_eval.proofs.Policies.{model-changed, numbered-from, both-same}
-use Rattle.sc_eval.proofs.Policies as kept
-use Rattle.sc_formula.specs.declared.structure.Structure.{Structure}
-use Rattle.sc_formula.specs.Trees.{Term}
-use Rattle.sc_formula.specs.Truth.{size_of}
-use Rattle.sc_duty.specs.Structures.{sort_of, element_of, structure_of}
-use Rattle.sc_duty.specs.Cases.{Cases, held}
-use Rattle.sc_duty.specs.Formulas.{Written, nothing_written, field_cases, with_added, written_out, init_cases}
-use Rattle.sc_duty.proofs.Means.{prefix-itself, HasType, IsTermOf, Means}
-use Rattle.sc_duty.proofs.Meanings.{Shows}
-use Rattle.sc_duty.proofs.Starting.{find-front, find-behind, shows-itself}
-use Rattle.sc_duty.proofs.Adding.{written-more, written-kept, none-written, added-split, field-new, init-means, init-typed}
-
+use Rattle.sc_eval.proofs.Kept.{found-field, model-below}
+use Rattle.sc_duty.proofs.Starting.{find-front, find-behind}
 use Rattle.sc_duty.proofs.Shown.{has-field, model-of-field, changed-there, model-there, some-passes}
 
 -- ---- slots

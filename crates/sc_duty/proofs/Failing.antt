@@ -1,7 +1,7 @@
 -- A script none of whose obligations fails is secure at each step.
-use Rattle.std.proofs.Common.{◌≡◌, ℕ, zero, suc, ◌+◌, ◌-◌, ◌<◌, ◌≤◌, Bool, true, false, not, ◌&&◌, List, [], ◌∷◌, ◌++◌, length, refl, ap, sym, ◌∙◌, subst, arith, cond, Contains}
-use Rattle.std.specs.Prelude.{Option, Some, None, ◌==◌, map, filter, flat_map, is_some, slice_get, slice_index_or}
-use Rattle.std.specs.List.{find, list_any, range_with_len, AllByRecursion}
+use Rattle.std.proofs.Common.{◌≡◌, ℕ, zero, suc, ◌+◌, ◌-◌, ◌<◌, ◌≤◌, Bool, true, false, ◌&&◌, List, [], ◌∷◌, ◌++◌, length, refl, ap, sym, ◌∙◌, subst, arith, cond, Contains}
+use Rattle.std.specs.Prelude.{Option, Some, None, ◌==◌, map, filter, flat_map, is_some, slice_get}
+use Rattle.std.specs.List.{range_with_len}
 use Rattle.std.specs.Option.{option_map_or}
 use Rattle.std.proofs.lemmas.Bool.{eqb-true}
 use Rattle.std.proofs.lemmas.Option.{slice_get_within, get_or_from_slice_get}
@@ -14,10 +14,9 @@ use Rattle.sc_schema.specs.declared.rights.Right.TheVariants.{Read, Write, Creat
 use Rattle.sc_schema.specs.declared.rights.Target.{Target}
 use Rattle.sc_schema.specs.declared.rights.Target.TheVariants as on
 use Rattle.sc_schema.specs.Trees.{Policy, Init}
-use Rattle.sc_schema.specs.Schema.{StaticInfo, FieldInfo, ModelInfo, Schema, model_of, static_of}
+use Rattle.sc_schema.specs.Schema.{StaticInfo, ModelInfo, Schema, model_of, static_of}
 use Rattle.sc_schema.specs.Typing.{HasModel}
 use Rattle.sc_schema.specs.Commands.{Command, create_model, delete_model, add_static, remove_static, add_principal, add_field, remove_field, update_field, weaken_field, update_model, weaken_model, schema_after}
-use Rattle.sc_schema.specs.Proper.{IsProper}
 use Rattle.sc_schema.specs.Uses.{Use, init_uses_of}
 use Rattle.sc_schema.specs.Script.{Script, schema_at, command_at, count, IsScript}
 use Rattle.sc_schema.specs.Kinds.{has_kind, is_kind_at, kinds_at, numbers_below}
@@ -26,7 +25,7 @@ use Rattle.sc_data.specs.Database.{Database}
 use Rattle.sc_data.proofs.Finds.{find-holds, find-among}
 use Rattle.sc_eval.specs.declared.cells.Cell.{Cell}
 use Rattle.sc_eval.specs.Run.{run_to}
-use Rattle.sc_eval.specs.Gain.{IsStart, kind_of, is_principal_at, same_target, gives_field, gives_model, updates, GainAt, FlowAt}
+use Rattle.sc_eval.specs.Gain.{kind_of, gives_field, gives_model, updates, GainAt, FlowAt}
 use Rattle.sc_eval.specs.Secure.{IsStepSecure}
 use Rattle.sc_eval.proofs.Tests.{and-left, and-right}
 use Rattle.sc_formula.specs.Truth.{truth}

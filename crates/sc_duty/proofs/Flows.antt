@@ -1,5 +1,5 @@
 -- The formula of an obligation against flow leaks is true where a use leaks to somebody.
-use Rattle.std.proofs.Common.{◌≡◌, ℕ, zero, suc, ◌+◌, ◌-◌, ◌<◌, ◌≤◌, Bool, true, false, not, ◌&&◌, ◌||◌, List, [], ◌∷◌, ◌++◌, length, refl, ap, sym, ◌∙◌, subst, arith, cond, length-append}
+use Rattle.std.proofs.Common.{◌≡◌, ℕ, suc, ◌+◌, ◌-◌, ◌<◌, ◌≤◌, Bool, true, false, not, ◌&&◌, List, [], ◌∷◌, ◌++◌, length, refl, ap, sym, ◌∙◌, subst, arith, cond, length-append}
 use Rattle.std.specs.Prelude.{Option, Some, None, ◌==◌, map, is_some, slice_get, slice_index_or, option_and_then, Contains, if◌then◌else◌}
 use Rattle.std.specs.List.{find, list_any}
 use Rattle.std.specs.Option.{option_map, option_map_or}
@@ -16,10 +16,10 @@ use Rattle.sc_schema.specs.declared.rights.Target.TheVariants as on
 use Rattle.sc_schema.specs.Trees.{Init}
 use Rattle.sc_schema.specs.Schema.{FieldInfo, ModelInfo, Schema, model_in, field_in, model_of, type_of, model_of_target}
 use Rattle.sc_schema.specs.Typing.{HasModel, IsInit}
-use Rattle.sc_schema.specs.Commands.{Command, add_field, with_field, change_model, schema_after}
+use Rattle.sc_schema.specs.Commands.{add_field, with_field, schema_after}
 use Rattle.sc_schema.specs.Proper.{model_numbers}
-use Rattle.sc_schema.specs.Uses.{Use, init_uses_of}
-use Rattle.sc_schema.specs.Script.{Script, schema_at, command_at, count, IsScript}
+use Rattle.sc_schema.specs.Uses.{Use}
+use Rattle.sc_schema.specs.Script.{Script, schema_at, count, IsScript}
 use Rattle.sc_schema.specs.Kinds.{has_kind, is_kind_at}
 use Rattle.sc_data.specs.declared.principals.Principal.{Principal}
 use Rattle.sc_data.specs.declared.principals.Principal.TheVariants as who
@@ -29,7 +29,7 @@ use Rattle.sc_data.proofs.Finds.{find-holds, find-among, find-map}
 use Rattle.sc_eval.specs.declared.cells.Cell.{Cell}
 use Rattle.sc_eval.specs.Touched.{init_touched}
 use Rattle.sc_eval.specs.Run.{run_to}
-use Rattle.sc_eval.specs.Gain.{IsStart, kind_of, is_principal_at, has_right_at, AddsAt, FlowAt}
+use Rattle.sc_eval.specs.Gain.{IsStart, kind_of, is_principal_at, has_right_at, FlowAt}
 use Rattle.sc_eval.proofs.Agreement.{ap2}
 use Rattle.sc_eval.proofs.Kept.{found-field}
 use Rattle.sc_eval.proofs.Tests.{and-left, and-right, and-both, not-true}
@@ -39,7 +39,7 @@ use Rattle.sc_formula.specs.Truth.{truth, size_of}
 use Rattle.sc_duty.specs.declared.duty.Duty.{Duty}
 use Rattle.sc_duty.specs.Structures.{before, sort_of, element_of, structure_of}
 use Rattle.sc_duty.specs.Formulas.{Who, static, record_at, nothing_written}
-use Rattle.sc_duty.specs.Duties.{written_at, has_right, for_some, for_some_principal, leak_formula, use_formula, added_formula, flow_formula_of}
+use Rattle.sc_duty.specs.Duties.{written_at, has_right, for_some, for_some_principal, leak_formula, added_formula, flow_formula_of}
 use Rattle.sc_duty.specs.Reach.{init_reach}
 use Rattle.sc_duty.specs.Reads.{init_read_by}
 use Rattle.sc_duty.specs.Flows.{cell_of, IsFlowDuty, LeaksToSomebody, FlowFormulasAreTrue}

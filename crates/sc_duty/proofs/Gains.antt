@@ -1,10 +1,10 @@
 -- The formula of an obligation against gains is true where somebody gains.
 use Rattle.std.proofs.Common.{◌≡◌, ℕ, zero, suc, ◌-◌, ◌<◌, ◌≤◌, Bool, true, false, not, ◌&&◌, ◌||◌, List, [], ◌∷◌, length, take, refl, ap, sym, ◌∙◌, subst, arith, inl, inr}
-use Rattle.std.specs.Prelude.{Option, Some, None, ◌==◌, map, is_some, slice_get}
+use Rattle.std.specs.Prelude.{Option, Some, None, ◌==◌, map, slice_get}
 use Rattle.std.specs.List.{list_any}
 use Rattle.std.specs.Option.{option_map_or}
 use Rattle.std.proofs.lemmas.Bool.{eqb-true, eq-eqb}
-use Rattle.std.proofs.lemmas.Option.{slice_get_within, get_or_from_slice_get}
+use Rattle.std.proofs.lemmas.Option.{slice_get_within}
 use Rattle.sc_schema.specs.declared.types.TBase.TheVariants as base
 use Rattle.sc_schema.specs.declared.rights.Kind.{Kind}
 use Rattle.sc_schema.specs.declared.rights.Kind.TheVariants as kind
@@ -12,7 +12,7 @@ use Rattle.sc_schema.specs.declared.rights.Right.{Right}
 use Rattle.sc_schema.specs.declared.rights.Target.{Target}
 use Rattle.sc_schema.specs.declared.rights.Target.TheVariants as on
 use Rattle.sc_schema.specs.Trees.{Policy}
-use Rattle.sc_schema.specs.Schema.{ModelInfo, Schema, model_of, model_of_target}
+use Rattle.sc_schema.specs.Schema.{Schema, model_of_target}
 use Rattle.sc_schema.specs.Typing.{HasModel}
 use Rattle.sc_schema.specs.Commands.{Command, create_model, delete_model, add_static, remove_static, add_principal, add_field, remove_field, update_field, weaken_field, update_model, weaken_model, IsCommand}
 use Rattle.sc_schema.specs.Script.{Script, schema_at, command_at, count, IsScript}

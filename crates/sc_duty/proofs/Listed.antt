@@ -1,6 +1,6 @@
 -- The list of obligations has just those.
-use Rattle.std.proofs.Common.{◌≡◌, ℕ, zero, suc, ◌+◌, ◌-◌, ◌<◌, ◌≤◌, ◌⊎◌, Bool, true, false, ◌&&◌, List, [], ◌∷◌, ◌++◌, length, refl, ap, sym, ◌∙◌, subst, arith, cond, inl, inr, Contains}
-use Rattle.std.specs.Prelude.{Option, Some, None, ◌==◌, map, filter, flat_map, is_some, slice_get, MatchOption}
+use Rattle.std.proofs.Common.{◌≡◌, ℕ, zero, suc, ◌+◌, ◌-◌, ◌<◌, ◌≤◌, ◌⊎◌, Bool, true, false, ◌&&◌, List, [], ◌∷◌, length, refl, ap, sym, ◌∙◌, subst, arith, cond, inl, inr, Contains}
+use Rattle.std.specs.Prelude.{Option, Some, None, ◌==◌, map, filter, flat_map, is_some, MatchOption}
 use Rattle.std.specs.List.{range_with_len}
 use Rattle.std.specs.Option.{option_map_or}
 use Rattle.std.proofs.lemmas.Bool.{eq-eqb}
@@ -12,16 +12,15 @@ use Rattle.sc_schema.specs.declared.rights.Right.TheVariants.{Read, Write, Creat
 use Rattle.sc_schema.specs.declared.rights.Target.{Target}
 use Rattle.sc_schema.specs.declared.rights.Target.TheVariants as on
 use Rattle.sc_schema.specs.Trees.{Policy, Init}
-use Rattle.sc_schema.specs.Schema.{FieldInfo, ModelInfo}
+use Rattle.sc_schema.specs.Schema.{FieldInfo}
 use Rattle.sc_schema.specs.Commands.{Command, create_model, delete_model, add_static, remove_static, add_principal, add_field, remove_field, update_field, weaken_field, update_model, weaken_model}
-use Rattle.sc_schema.specs.Uses.{Use, init_uses_of}
+use Rattle.sc_schema.specs.Uses.{init_uses_of}
 use Rattle.sc_schema.specs.Script.{Script, command_at, count, IsScript}
-use Rattle.sc_schema.specs.Kinds.{is_kind_at, kinds_at, numbers_below}
-use Rattle.sc_eval.specs.Gain.{updates, AddsAt}
+use Rattle.sc_schema.specs.Kinds.{is_kind_at, kinds_at}
+use Rattle.sc_eval.specs.Gain.{updates}
 use Rattle.sc_duty.specs.declared.duty.Duty.{Duty}
 use Rattle.sc_duty.specs.Duties.{gains_at, flows_at, obligations_at, obligations_of}
 use Rattle.sc_duty.specs.Gains.{IsGainDuty}
-use Rattle.sc_duty.specs.Flows.{IsFlowDuty}
 use Rattle.sc_duty.specs.Listed.{IsUseDuty, IsObligation, ObligationsAreListed}
 use Rattle.sc_duty.proofs.Failing.{no-element, in-tail, of-updated, of-added, of-command, kind-listed}
 

@@ -1,7 +1,7 @@
 -- Which cases are over a signature, where the quantifiers above have these sorts.
 use Rattle.std.proofs.Common.{◌≡◌, ℕ, zero, suc, ◌<◌, Bool, true, false, not, ◌||◌, List, [], ◌∷◌, ◌++◌, length, refl, ap, sym, ◌∙◌, subst}
-use Rattle.std.specs.Prelude.{Option, Some, None, slice_get, slice_index_or, fold, unwrap_or, if◌then◌else◌}
-use Rattle.std.specs.List.{reduce, AllByRecursion}
+use Rattle.std.specs.Prelude.{Some, slice_get, slice_index_or, fold, if◌then◌else◌}
+use Rattle.std.specs.List.{AllByRecursion}
 use Rattle.std.specs.Option.{option_map_or}
 use Rattle.sc_tree.specs.declared.exprs.CmpOp.{CmpOp}
 use Rattle.sc_tree.specs.declared.exprs.CmpOp.TheVariants.{Eq, Ne, Lt, Le, Gt, Ge}
@@ -12,12 +12,9 @@ use Rattle.sc_schema.specs.declared.types.TTy.TheVariants.{Plain, Set, Opt}
 use Rattle.sc_schema.specs.Schema.{Schema, type_of}
 use Rattle.sc_schema.specs.Typing.{Scope, MaySign}
 use Rattle.sc_eval.proofs.Agreement.{ap2}
-use Rattle.sc_formula.specs.declared.structure.Range.{Range}
-use Rattle.sc_formula.specs.declared.structure.Range.TheVariants as range
-use Rattle.sc_formula.specs.declared.structure.FunSig.{FunSig}
 use Rattle.sc_formula.specs.declared.structure.Signature.{Signature}
 use Rattle.sc_formula.specs.Trees.{Term, app, Formula, no, equal, less, has, flag, present}
-use Rattle.sc_formula.specs.Over.{IsFunction, HasRange, AreComparable, IsOver}
+use Rattle.sc_formula.specs.Over.{HasRange, AreComparable, IsOver}
 use Rattle.sc_duty.specs.Structures.{base_range, function_of, relation_of}
 use Rattle.sc_duty.specs.Cases.{Condition, constant, atom, and_if, or_if, exists_if, all_if, any_if, chosen, same_condition, Cases, at_term, held, truth, among, none, some, choice, continued, at_ends, of_term, at_terms, is_present, of_option, end_holds, condition_of, end_has, has_term, same_term, less_term, is_truth_type, is_truth, some_of}
 use Rattle.sc_duty.specs.Cases as cases

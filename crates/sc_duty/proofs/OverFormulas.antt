@@ -1,8 +1,7 @@
 -- The formulas of expressions and sets that are well typed are over the signature.
-use Rattle.std.proofs.Common.{◌≡◌, ℕ, zero, suc, ◌+◌, ◌-◌, ◌<◌, Bool, true, false, not, List, [], ◌∷◌, ◌++◌, length, refl, ap, sym, ◌∙◌, subst, arith, length-append}
-use Rattle.std.specs.Prelude.{Option, Some, None, ◌==◌, nat_lt, is_some, slice_get, option_and_then, if◌then◌else◌}
+use Rattle.std.proofs.Common.{◌≡◌, ℕ, suc, ◌<◌, Bool, true, false, not, List, [], ◌∷◌, ◌++◌, length, refl, ap, sym, ◌∙◌, subst, arith, length-append}
+use Rattle.std.specs.Prelude.{Some, ◌==◌, slice_get, if◌then◌else◌}
 use Rattle.std.specs.List.{AllByRecursion}
-use Rattle.std.specs.Option.{option_map}
 use Rattle.std.proofs.lemmas.Bool.{eqb-true}
 use Rattle.sc_tree.specs.declared.exprs.FilterOp.{FilterOp}
 use Rattle.sc_tree.specs.declared.exprs.FilterOp.TheVariants.{Cmp, Has}
@@ -13,7 +12,6 @@ use Rattle.sc_schema.specs.declared.types.TTy.TheVariants.{Plain, Set, Opt}
 use Rattle.sc_schema.specs.Trees.{Expr, flag, num, str, var, nothing, just, get, equal, iff, less, within, negation, both, either, if_expr, match_expr, SetExpr, everyone, nobody, listed, union, minus, find, path, mapped, flat_mapped, if_set, match_set, Items, no_items, static_item, record_item, Filters, no_filters, filter_and, Policy, to_all, to_none, by_record, Init, plain, of_set}
 use Rattle.sc_schema.specs.Schema.{Schema, type_of}
 use Rattle.sc_schema.specs.Typing.{HasModel, Scope, Content, records, principals, IsCompared, MayTest, IsExpr, IsSet, AreItems, AreFilters, IsPolicy, IsInit}
-use Rattle.sc_schema.specs.Uses.{uses_of, set_uses_of}
 use Rattle.sc_eval.specs.Meaning.{same_truth}
 use Rattle.sc_formula.specs.declared.structure.Range.TheVariants as range
 use Rattle.sc_formula.specs.declared.structure.Signature.{Signature}
@@ -21,14 +19,14 @@ use Rattle.sc_formula.specs.Trees.{Term, Formula, bound}
 use Rattle.sc_formula.specs.Trees as tree
 use Rattle.sc_formula.specs.Over.{IsOver}
 use Rattle.sc_duty.specs.Structures.{sort_of}
-use Rattle.sc_duty.specs.Cases.{Condition, constant, atom, and_if, all_if, chosen, Cases, at_term, held, truth, among, none, some, choice, continued, at_ends, of_term, at_terms, is_present, of_option, condition_of, has_term, is_truth_type, is_truth}
+use Rattle.sc_duty.specs.Cases.{Condition, constant, atom, and_if, all_if, chosen, Cases, at_term, held, truth, among, none, some, choice, continued, of_term, at_terms, of_option, condition_of, has_term, is_truth_type, is_truth}
 use Rattle.sc_duty.specs.Formulas.{Who, static, record_at, of_each_kind, of_model, Scene, Written, field_cases, cases_of, is_in, items_in, filters_at, is_allowed, init_cases}
 use Rattle.sc_duty.specs.Formulas as form
-use Rattle.sc_duty.specs.Reach.{in_parts, sides, end_is_none, end_is_some, reach, set_reach, items_reach, filters_reach, init_reach}
+use Rattle.sc_duty.specs.Reach.{end_is_none, end_is_some}
 use Rattle.sc_duty.proofs.Means.{IsPrefix, prefix-itself, prefix-more, prefix-along, shows-truth, truth-type, option-type}
 use Rattle.sc_duty.proofs.Meanings.{get-next}
 use Rattle.sc_duty.proofs.Ends.{IsEnd}
-use Rattle.sc_duty.proofs.OverCases.{constant-over, atom-over, and-over, exists-over, all-over, any-over, HasTerm, OverCondition, OverMembers, OverCases, over-typed, over-more, ends-over, ends-cases, term-end, terms-over, option-end, chosen-over, condition-over, same-over, has-over, equal-over, less-over, comparison-over, OverScene, scene-at, scene-more, scene-and, OverWho, overwho-more}
+use Rattle.sc_duty.proofs.OverCases.{constant-over, atom-over, and-over, exists-over, all-over, any-over, HasTerm, OverCases, over-typed, ends-over, ends-cases, term-end, terms-over, option-end, chosen-over, condition-over, same-over, has-over, equal-over, less-over, comparison-over, OverScene, scene-at, scene-more, scene-and, OverWho, overwho-more}
 
 -- what the schema s says of fields and models is over the signature, whose sorts and functions are numbered by the schema b
 pub record Speaks (b s : Schema) (written : Written) (g : Signature) : Type 0 where
@@ -95,21 +93,30 @@ module _ (b s : Schema) (written : Written) (g : Signature) (speaks : Speaks b s
         ends-cases b g xs (Plain (base.Id m)) t (of_term b none (field_cases b written m f))
         (λ end is k. term-end b g (λ (a : Cases). OverCases b g xs t a) none (field_cases b written m f) xs (base.Id m) refl (λ u it. speaks.fields m f t e.0 xs u it) end is k)
         (cases_of b written scene x) (over x scope scene xs h (Plain (base.Id m)) e.1)
-    over (equal x y op) scope scene xs h t e =
-        (e.0, equal-over b g xs e.1.0 (cases_of b written scene x) (cases_of b written scene y) (not-truth e.1.0 e.1.1)
-        (over x scope scene xs h (Plain e.1.0) e.1.2) (over y scope scene xs h (Plain e.1.0) e.1.3))
-    over (iff x y op) scope scene xs h t e =
-        (e.0, same-over b g xs (condition_of b (cases_of b written scene x)) (condition_of b (cases_of b written scene y))
-        (condition-over b g xs (cases_of b written scene x) (over x scope scene xs h (Plain base.Bool) e.1))
-        (condition-over b g xs (cases_of b written scene y) (over y scope scene xs h (Plain base.Bool) e.2)))
-    over (less x y op) scope scene xs h t e =
-        (e.0, less-over b g xs (cases_of b written scene x) (cases_of b written scene y)
-        (over x scope scene xs h (Plain base.Int) e.1) (over y scope scene xs h (Plain base.Int) e.2))
-    over (within x m set) scope scene xs h t e = (e.0, λ zs q sign.
-        let more = scene-more b g xs zs scope scene q h in
-        terms-over b g zs (base.Id m) (λ u. is_in b written scene set (record_at m u) sign (length zs)) refl
-        (λ u it. in-over set scope scene zs more (records m) e.2 (record_at m u) it sign)
-        (cases_of b written scene x) (over x scope scene zs more (Plain (base.Id m)) e.1))
+    over (equal x y op) scope scene xs h t e = (
+      e.0,
+      equal-over b g xs e.1.0 (cases_of b written scene x) (cases_of b written scene y) (not-truth e.1.0 e.1.1)
+          (over x scope scene xs h (Plain e.1.0) e.1.2) (over y scope scene xs h (Plain e.1.0) e.1.3),
+    )
+    over (iff x y op) scope scene xs h t e = (
+      e.0,
+      same-over b g xs (condition_of b (cases_of b written scene x)) (condition_of b (cases_of b written scene y))
+          (condition-over b g xs (cases_of b written scene x) (over x scope scene xs h (Plain base.Bool) e.1))
+          (condition-over b g xs (cases_of b written scene y) (over y scope scene xs h (Plain base.Bool) e.2)),
+    )
+    over (less x y op) scope scene xs h t e = (
+      e.0,
+      less-over b g xs (cases_of b written scene x) (cases_of b written scene y)
+          (over x scope scene xs h (Plain base.Int) e.1) (over y scope scene xs h (Plain base.Int) e.2),
+    )
+    over (within x m set) scope scene xs h t e = (
+      e.0,
+      λ zs q sign.
+          let more = scene-more b g xs zs scope scene q h in
+          terms-over b g zs (base.Id m) (λ u. is_in b written scene set (record_at m u) sign (length zs)) refl
+          (λ u it. in-over set scope scene zs more (records m) e.2 (record_at m u) it sign)
+          (cases_of b written scene x) (over x scope scene zs more (Plain (base.Id m)) e.1),
+    )
     over (negation x) scope scene xs h t e =
         let one = condition-over b g xs (cases_of b written scene x) (over x scope scene xs h (Plain base.Bool) e.1) in
         (e.0, λ zs q sign. one zs q (not sign))
@@ -213,8 +220,12 @@ module _ (b s : Schema) (written : Written) (g : Signature) (speaks : Speaks b s
 
   pub init-over : (m : ℕ) (t : TTy) (init : Init) → IsInit s m t init → (xs : List ℕ) (u : Term) → HasTerm b g xs (base.Id m) u → OverCases b g xs t (init_cases b written init u)
   init-over m t (plain x) is xs u it = over x (Plain (base.Id m) ∷ []) (at_term u ∷ []) xs ((base.Id m, refl, refl, it), tt) t is.1
-  init-over m t (of_set n set) is xs u it = (n, is.0, λ zs q w other sign.
-      in-over set (Plain (base.Id m) ∷ []) (at_term u ∷ []) zs ((base.Id m, refl, refl, λ ws r. it ws (prefix-along xs zs ws q r)), tt) (records n) is.1 (record_at n w) other sign)
+  init-over m t (of_set n set) is xs u it = (
+    n,
+    is.0,
+    λ zs q w other sign.
+        in-over set (Plain (base.Id m) ∷ []) (at_term u ∷ []) zs ((base.Id m, refl, refl, λ ws r. it ws (prefix-along xs zs ws q r)), tt) (records n) is.1 (record_at n w) other sign,
+  )
 
   -- ---- uses
 

@@ -1,5 +1,5 @@
 -- The formula of a use is over the signature.
-use Rattle.std.proofs.Common.{◌≡◌, ℕ, zero, suc, ◌-◌, ◌<◌, ◌≤◌, Bool, true, false, List, [], ◌∷◌, ◌++◌, length, refl, ap, sym, ◌∙◌, subst, inl, inr}
+use Rattle.std.proofs.Common.{◌≡◌, ℕ, zero, suc, ◌-◌, Bool, true, false, List, [], ◌∷◌, ◌++◌, length, refl, ap, sym, ◌∙◌, subst, inl, inr}
 use Rattle.std.specs.Prelude.{Some, slice_get, if◌then◌else◌}
 use Rattle.std.proofs.lemmas.Bool.{lt-ltb, le-ltb}
 use Rattle.std.proofs.lemmas.List.{append_assoc}
@@ -70,11 +70,14 @@ module _ (b s : Schema) (written : Written) (g : Signature) (speaks : Speaks b s
       let zs : List ℕ = xs ++ sort_of b k ∷ [] in
       let q : IsPrefix xs zs = prefix-more xs (sort_of b k) in
       let more = scene-more b g xs zs scope scene q h in
-      let next = next-over b s written g speaks k xs in
-      (speaks.sorts k model, (
-      subst (λ (j : ℕ). IsOver g zs (is_in b written scene set (record_at k u) true j)) (longer b s written g speaks xs (sort_of b k))
-      (in-over b s written g speaks set scope scene zs more (records k) e (record_at k u) next true),
-      inside (scene-and b g zs scope scene (Plain (base.Id k)) (at_term u) more (base.Id k, refl, refl, next)) (λ ws r. i ws (prefix-along xs zs ws q r))))
+      let next = next-over b s written g speaks k xs in (
+        speaks.sorts k model,
+        (
+          subst (λ (j : ℕ). IsOver g zs (is_in b written scene set (record_at k u) true j)) (longer b s written g speaks xs (sort_of b k))
+              (in-over b s written g speaks set scope scene zs more (records k) e (record_at k u) next true),
+          inside (scene-and b g zs scope scene (Plain (base.Id k)) (at_term u) more (base.Id k, refl, refl, next)) (λ ws r. i ws (prefix-along xs zs ws q r)),
+        ),
+      )
 
   mutual
     reach-over : (x : Expr) (scope : Scope) (scene : Scene) (xs : List ℕ) → OverScene b g xs scope scene → IsRead xs → (t : TTy) → IsExpr s scope t x

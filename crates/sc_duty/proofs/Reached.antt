@@ -1,6 +1,6 @@
 -- The formula of a use is true at a record where the use reads its field of it.
-use Rattle.std.proofs.Common.{◌≡◌, ℕ, zero, suc, ◌+◌, ◌-◌, ◌<◌, ◌≤◌, ◌⊎◌, Bool, true, false, not, ◌&&◌, ◌||◌, List, [], ◌∷◌, ◌++◌, length, refl, ap, sym, ◌∙◌, subst, arith, inl, inr}
-use Rattle.std.specs.Prelude.{Option, Some, None, map, ◌==◌, nat_lt, nat_eq, slice_get, if◌then◌else◌}
+use Rattle.std.proofs.Common.{◌≡◌, ℕ, zero, suc, ◌-◌, ◌<◌, ◌≤◌, ◌⊎◌, Bool, true, false, not, ◌&&◌, ◌||◌, List, [], ◌∷◌, ◌++◌, length, refl, ap, sym, ◌∙◌, subst, arith, inl, inr}
+use Rattle.std.specs.Prelude.{Some, map, ◌==◌, slice_get, if◌then◌else◌}
 use Rattle.std.specs.List.{list_any, flat_map}
 use Rattle.std.proofs.lemmas.Bool.{eqb-true, eq-eqb, false_from_ne_true, lt-ltb, le-ltb}
 use Rattle.std.proofs.lemmas.List.{append_assoc}
@@ -16,24 +16,24 @@ use Rattle.sc_schema.specs.Schema.{Schema}
 use Rattle.sc_schema.specs.Typing.{HasModel, Scope, Content, records, IsExpr, IsSet, AreItems, AreFilters, IsInit}
 use Rattle.sc_schema.specs.Uses.{Use, in_order_of_text, uses_of, set_uses_of, item_uses_of, filter_uses_of, init_uses_of}
 use Rattle.sc_data.specs.declared.principals.Principal.TheVariants.{Rec}
-use Rattle.sc_data.specs.Values.{Value, Id, Nothing, Just}
+use Rattle.sc_data.specs.Values.{Value, Id}
 use Rattle.sc_data.specs.Database.{Database, ids_of}
 use Rattle.sc_eval.specs.declared.cells.Cell.{Cell}
-use Rattle.sc_eval.specs.Meaning.{Env, truth_of, id_of, taken_apart, value_of, member, same_truth}
+use Rattle.sc_eval.specs.Meaning.{Env, truth_of, id_of, taken_apart, value_of, member}
 use Rattle.sc_eval.proofs.Agreement.{ap2}
 use Rattle.sc_formula.specs.declared.structure.Structure.{Structure}
 use Rattle.sc_formula.specs.Trees.{Term, Formula, bound}
 use Rattle.sc_formula.specs.Trees as tree
 use Rattle.sc_formula.specs.Truth as formula
 use Rattle.sc_duty.specs.Structures.{sort_of}
-use Rattle.sc_duty.specs.Cases.{Cases, at_term, held, truth, among, none, some, choice, at_ends, at_terms, is_present, condition_of}
+use Rattle.sc_duty.specs.Cases.{Cases, at_term, held, truth, among, none, some, choice, at_ends, at_terms, condition_of}
 use Rattle.sc_duty.specs.Formulas.{record_at, Scene, Written, cases_of, is_in}
 use Rattle.sc_duty.specs.Reach.{in_parts, sides, end_is_none, end_is_some, reach, set_reach, items_reach, filters_reach, init_reach}
 use Rattle.sc_duty.specs.Reads.{read_by, set_read_by, items_read_by, filters_read_by, init_read_by}
 use Rattle.sc_duty.proofs.Signed.{or-false, exists-truth}
-use Rattle.sc_duty.proofs.Means.{IsPrefix, prefix-itself, prefix-more, HasType, option-type, IsTermOf, IsConditionOf, Means, Stands, stands-typed, stands-more, stands-and, term-more}
+use Rattle.sc_duty.proofs.Means.{prefix-itself, prefix-more, HasType, option-type, IsTermOf, Means, Stands, stands-typed, stands-more, stands-and, term-more}
 use Rattle.sc_duty.proofs.Ends.{IsEnd, ends-true, terms-true, entries-equal}
-use Rattle.sc_duty.proofs.Meanings.{Shows, typed, means, in-means, next-is, longer, holds, own-there, id-term}
+use Rattle.sc_duty.proofs.Meanings.{Shows, typed, means, in-means, next-is, longer, holds, own-there}
 
 -- whether the cell is of the field of the use, at the record with this id
 abbrev pub is_at : Use → ℕ → Cell → Bool

@@ -1,43 +1,38 @@
 -- The structure of a start database shows what the database is after each command.
-use Rattle.std.proofs.Common.{◌≡◌, ℕ, zero, suc, ◌+◌, ◌-◌, ◌<◌, ◌≤◌, Bool, true, false, not, List, [], ◌∷◌, ◌++◌, length, ◌⊎◌, refl, ap, sym, ◌∙◌, subst, arith, cond, inl, inr}
-use Rattle.std.specs.Prelude.{Option, Some, None, map, filter, ◌==◌, is_some, slice_get, option_and_then}
-use Rattle.std.specs.List.{find, list_any, AllByRecursion}
+use Rattle.std.proofs.Common.{◌≡◌, ℕ, zero, suc, ◌+◌, ◌<◌, ◌≤◌, Bool, true, false, not, List, [], ◌∷◌, ◌++◌, length, refl, ap, sym, ◌∙◌, subst, arith, cond, inl, inr}
+use Rattle.std.specs.Prelude.{Option, Some, None, filter, ◌==◌, is_some}
+use Rattle.std.specs.List.{find, list_any}
 use Rattle.std.specs.Option.{option_map, option_map_or}
 use Rattle.std.proofs.lemmas.Bool.{eqb-true, eq-eqb, false_from_ne_true}
-use Rattle.std.proofs.lemmas.Option.{slice_get_cases}
-use Rattle.sc_schema.specs.declared.types.TBase.TheVariants as base
 use Rattle.sc_schema.specs.declared.types.TTy.{TTy}
 use Rattle.sc_schema.specs.declared.types.TTy.TheVariants.{Set}
 use Rattle.sc_schema.specs.Trees.{Init}
-use Rattle.sc_schema.specs.Schema.{FieldInfo, ModelInfo, Added, Schema, model_in, field_in, model_of, field_of, type_of}
+use Rattle.sc_schema.specs.Schema.{FieldInfo, ModelInfo, Added, Schema, field_in, model_of, type_of}
 use Rattle.sc_schema.specs.Typing.{HasModel, IsInit, IsType}
-use Rattle.sc_schema.specs.Commands.{Command, create_model, delete_model, add_static, remove_static, add_principal, add_field, remove_field, update_field, weaken_field, update_model, weaken_model, change_model, with_field, without_field, with_field_policies, with_model_policies, schema_after, AreNumberedFrom, IsCommand}
+use Rattle.sc_schema.specs.Commands.{Command, create_model, delete_model, add_static, remove_static, add_principal, add_field, remove_field, update_field, weaken_field, update_model, weaken_model, with_field, schema_after, AreNumberedFrom}
 use Rattle.sc_schema.specs.Proper.{AreProperFields, IsProper}
-use Rattle.sc_schema.specs.Script.{Script, schema_at, command_at, count, closed_field, closed_model, created_by, created, IsScript}
+use Rattle.sc_schema.specs.Script.{Script, schema_at, command_at, count, closed_model, created, IsScript}
 use Rattle.sc_data.specs.Values.{Value, Nothing}
-use Rattle.sc_data.specs.Database.{Slot, Record, Table, Database, table_of, records_of, slots_of, ids_of, has_record, field_at, AreSlots, IsRecordIn, HasTable, IsDatabase}
-use Rattle.sc_data.proofs.Finds.{find-holds, find-among, find-none, find-map, find-last}
+use Rattle.sc_data.specs.Database.{Slot, Record, Table, Database, table_of, slots_of, has_record, field_at}
+use Rattle.sc_data.proofs.Finds.{find-among, find-none}
 use Rattle.sc_eval.specs.Meaning.{id_of}
-use Rattle.sc_eval.specs.Run.{init_value, after_command, after_if_any, run_to, change_slots}
+use Rattle.sc_eval.specs.Run.{init_value, after_command, run_to}
 use Rattle.sc_eval.specs.Gain.{IsStart}
-use Rattle.sc_eval.proofs.Agreement.{Agree}
-use Rattle.sc_eval.proofs.Changes.{ids-changed, slots-changed, table-kept}
-use Rattle.sc_eval.proofs.Kept.{found-field, field-typed, field-below, model-below}
-use Rattle.sc_eval.proofs.Meanings.{agree-added, agree-removed, agree-deleted}
-use Rattle.sc_eval.proofs.Policies.{model-changed, numbered-from, both-same}
-use Rattle.sc_eval.proofs.Policies as kept
+use Rattle.sc_eval.proofs.Changes.{table-kept}
+use Rattle.sc_eval.proofs.Kept.{field-typed, field-below}
+use Rattle.sc_eval.proofs.Meanings.{agree-added}
+use Rattle.sc_eval.proofs.Policies.{numbered-from, both-same}
 use Rattle.sc_formula.specs.declared.structure.Structure.{Structure}
 use Rattle.sc_formula.specs.Trees.{Term}
-use Rattle.sc_formula.specs.Truth.{size_of}
-use Rattle.sc_duty.specs.Structures.{sort_of, element_of, structure_of}
+use Rattle.sc_duty.specs.Structures.{structure_of}
 use Rattle.sc_duty.specs.Cases.{Cases, held}
 use Rattle.sc_duty.specs.Formulas.{Written, nothing_written, field_cases, with_added, written_out, init_cases}
-use Rattle.sc_duty.proofs.Means.{prefix-itself, HasType, IsTermOf, Means}
+use Rattle.sc_duty.proofs.Means.{prefix-itself, HasType, Means}
 use Rattle.sc_duty.proofs.Meanings.{Shows}
 use Rattle.sc_duty.proofs.Starting.{find-front, find-behind, shows-itself}
 use Rattle.sc_duty.proofs.Adding.{written-more, written-kept, none-written, added-split, field-new, init-means, init-typed}
-use Rattle.sc_duty.proofs.Shown.{has-field, model-of-field, ShownField, ShownModel, shows-all, shown-field, shown-model, field-moved, written-moved, model-moved, shows-less, agree-itself, AddsNothing, agrees, same-next, changed-there, model-there, field-there}
-use Rattle.sc_duty.proofs.Created.{slot_in, slots-kept, fresh-changed, none-filtered, all-mapped, numbered-below, slots-none, fresh-model, IsFresh, command-there, created-number, created-model, created-type, created-there, first-type, first-there, model-early, run-after, untouched-at, type-split, model-split}
+use Rattle.sc_duty.proofs.Shown.{has-field, ShownField, shows-all, shown-field, shown-model, field-moved, written-moved, model-moved, shows-less, agree-itself, AddsNothing, agrees, changed-there, model-there, field-there}
+use Rattle.sc_duty.proofs.Created.{slot_in, fresh-changed, none-filtered, all-mapped, numbered-below, fresh-model, IsFresh, command-there, created-number, created-model, created-type, created-there, first-type, first-there, run-after, untouched-at, type-split, model-split}
 
 -- ---- the walk
 

@@ -1,6 +1,6 @@
 -- What a use reads is of a record that is there.
-use Rattle.std.proofs.Common.{◌≡◌, ℕ, zero, suc, ◌⊎◌, Bool, true, false, ◌&&◌, ◌||◌, List, [], ◌∷◌, ◌++◌, length, refl, ap, sym, ◌∙◌, subst, inl, inr}
-use Rattle.std.specs.Prelude.{Option, Some, None, map, ◌==◌, slice_get, if◌then◌else◌}
+use Rattle.std.proofs.Common.{◌≡◌, ℕ, ◌⊎◌, Bool, true, false, ◌||◌, List, [], ◌∷◌, ◌++◌, length, refl, ap, sym, ◌∙◌, subst, inl, inr}
+use Rattle.std.specs.Prelude.{map, ◌==◌, slice_get, if◌then◌else◌}
 use Rattle.std.specs.List.{list_any, flat_map}
 use Rattle.std.specs.Option.{option_map}
 use Rattle.std.proofs.lemmas.Bool.{eqb-true, eq-eqb}
@@ -25,10 +25,10 @@ use Rattle.sc_formula.specs.Trees.{Term, bound}
 use Rattle.sc_duty.specs.Structures.{sort_of, element_of}
 use Rattle.sc_duty.specs.Cases.{Cases, at_term, held, truth, among, none, some, choice}
 use Rattle.sc_duty.specs.Formulas.{Scene, Written, cases_of}
-use Rattle.sc_duty.specs.Reach.{in_parts, sides}
+use Rattle.sc_duty.specs.Reach.{in_parts}
 use Rattle.sc_duty.specs.Reads.{read_by, set_read_by, items_read_by, filters_read_by, init_read_by}
 use Rattle.sc_duty.proofs.Means.{prefix-itself, prefix-more, HasType, option-type, IsTermOf, Means, Stands, stands-typed, stands-more, stands-and}
-use Rattle.sc_duty.proofs.Meanings.{Shows, typed, means, get-next, id-term, own-there}
+use Rattle.sc_duty.proofs.Meanings.{Shows, typed, means, get-next}
 use Rattle.sc_duty.proofs.ReadCells.{part, side}
 use Rattle.sc_duty.proofs.Reached.{is_at}
 

@@ -1,13 +1,11 @@
 -- The formulas of obligations are closed and over the signature of the schema of start databases.
-use Rattle.std.proofs.Common.{◌≡◌, ℕ, zero, suc, ◌+◌, ◌-◌, ◌<◌, ◌≤◌, ◌⊎◌, Bool, true, false, not, ◌&&◌, List, [], ◌∷◌, ◌++◌, length, refl, ap, sym, ◌∙◌, subst, arith, cond, inl, inr, Contains, length-append}
+use Rattle.std.proofs.Common.{◌≡◌, ℕ, zero, suc, ◌+◌, ◌-◌, ◌<◌, ◌≤◌, Bool, true, false, not, List, [], ◌∷◌, ◌++◌, length, refl, ap, sym, ◌∙◌, subst, arith, cond, inl, inr, length-append}
 use Rattle.std.specs.Prelude.{Option, Some, None, map, ◌==◌, is_some, slice_get, flat_map, option_and_then, MatchOption}
 use Rattle.std.specs.List as list
 use Rattle.std.specs.Option.{option_map, option_map_or}
-use Rattle.std.proofs.lemmas.Bool.{eqb-true}
 use Rattle.std.proofs.lemmas.Option.{slice_get_within}
 use Rattle.sc_tree.specs.declared.exprs.CmpOp.{CmpOp}
 use Rattle.sc_tree.specs.declared.exprs.CmpOp.TheVariants.{Eq, Ne, Lt, Le, Gt, Ge}
-use Rattle.sc_schema.specs.declared.types.TBase.{TBase}
 use Rattle.sc_schema.specs.declared.types.TBase.TheVariants as base
 use Rattle.sc_schema.specs.declared.types.TTy.{TTy}
 use Rattle.sc_schema.specs.declared.types.TTy.TheVariants.{Plain, Set, Opt}
@@ -18,9 +16,9 @@ use Rattle.sc_schema.specs.declared.rights.Right.TheVariants.{Read}
 use Rattle.sc_schema.specs.declared.rights.Target.{Target}
 use Rattle.sc_schema.specs.declared.rights.Target.TheVariants as on
 use Rattle.sc_schema.specs.Trees.{Expr, flag, num, str, var, nothing, just, get, equal, iff, less, within, negation, both, either, if_expr, match_expr, SetExpr, everyone, nobody, listed, union, minus, find, path, mapped, flat_mapped, if_set, match_set, Items, no_items, static_item, record_item, Filters, no_filters, filter_and, Policy, Init, plain, of_set}
-use Rattle.sc_schema.specs.Schema.{FieldInfo, ModelInfo, Added, Schema, model_in, field_in, model_of, type_of, model_of_target}
+use Rattle.sc_schema.specs.Schema.{FieldInfo, ModelInfo, Added, Schema, field_in, model_of, type_of, model_of_target}
 use Rattle.sc_schema.specs.Typing.{HasModel, Scope, Content, records, IsExpr, IsSet, AreItems, AreFilters, IsInit}
-use Rattle.sc_schema.specs.Commands.{Command, create_model, delete_model, add_static, remove_static, add_principal, add_field, remove_field, update_field, weaken_field, update_model, weaken_model, with_field, schema_after, AreNumberedFrom, IsCommand}
+use Rattle.sc_schema.specs.Commands.{Command, create_model, delete_model, add_static, remove_static, add_principal, add_field, remove_field, update_field, weaken_field, update_model, weaken_model, with_field, schema_after, AreNumberedFrom}
 use Rattle.sc_schema.specs.Proper.{IsProper, model_numbers}
 use Rattle.sc_schema.specs.Uses.{Use, in_order_of_text, uses_of, set_uses_of, item_uses_of, filter_uses_of, init_uses_of}
 use Rattle.sc_schema.specs.Script.{Script, schema_at, command_at, count, IsScript}
@@ -37,11 +35,11 @@ use Rattle.sc_formula.specs.Trees.{Term, bound, app, Formula, has, exists}
 use Rattle.sc_formula.specs.Trees as tree
 use Rattle.sc_formula.specs.Over.{HasRange, IsOver, IsClosedTerm, IsClosed}
 use Rattle.sc_duty.specs.declared.duty.Duty.{Duty}
-use Rattle.sc_duty.specs.Structures.{before, Place, places_in, is_set, functions_of, relations_of, is_place, sort_of, function_of, relation_of, base_range, range_of, target_of, function_signature, relation_signature}
+use Rattle.sc_duty.specs.Structures.{before, Place, places_in, is_set, functions_of, relations_of, is_place, sort_of, function_of, relation_of, range_of, target_of, function_signature, relation_signature}
 use Rattle.sc_duty.specs.Cases.{Cases, held, constant, is_truth_type}
 use Rattle.sc_duty.specs.Formulas.{Who, static, record_at, Written, nothing_written, with_added, written_out, field_cases, init_cases, is_allowed}
 use Rattle.sc_duty.specs.Reach.{init_reach}
-use Rattle.sc_duty.specs.Duties.{written_at, has_right, for_some, for_some_principal, gain_formula_of, leak_formula, use_formula, added_formula, flow_formula_of, obligations_of, formula_of}
+use Rattle.sc_duty.specs.Duties.{written_at, has_right, for_some, for_some_principal, gain_formula_of, leak_formula, added_formula, flow_formula_of, formula_of}
 use Rattle.sc_duty.specs.Gains.{IsGainDuty}
 use Rattle.sc_duty.specs.Flows.{IsFlowDuty}
 use Rattle.sc_duty.specs.Listed.{IsUseDuty, IsObligation}
@@ -50,12 +48,12 @@ use Rattle.sc_duty.proofs.Means.{IsPrefix, prefix-more, prefix-itself, prefix-al
 use Rattle.sc_duty.proofs.Starting.{place, Placed, placed, find-kept, number-found}
 use Rattle.sc_duty.proofs.Adding.{written-more, written-kept, none-written, added-split}
 use Rattle.sc_duty.proofs.Shown.{has-field, AddsNothing, changed-there, model-there, field-there}
-use Rattle.sc_duty.proofs.Created.{command-there, created-number, created-type, created-there, first-type, first-there, type-split, model-split, model-of-start, kind-model}
+use Rattle.sc_duty.proofs.Created.{command-there, created-type, created-there, first-type, first-there, type-split, model-split, model-of-start, kind-model}
 use Rattle.sc_duty.proofs.Gains.{updated-there}
 use Rattle.sc_duty.proofs.Reached.{get-parts}
 use Rattle.sc_duty.proofs.Listed.{from-list}
 use Rattle.sc_duty.proofs.Flows.{type-stays, model-stays}
-use Rattle.sc_duty.proofs.OverCases.{constant-over, atom-over, HasTerm, OverMembers, OverCases, OverWho, overwho-more}
+use Rattle.sc_duty.proofs.OverCases.{constant-over, atom-over, HasTerm, OverCases, OverWho, overwho-more}
 use Rattle.sc_duty.proofs.OverFormulas.{Speaks, next-over, allowed-over, init-over}
 use Rattle.sc_duty.proofs.OverReach.{init-reach-over}
 
@@ -137,14 +135,16 @@ module _ (b : Schema) (g : Signature) (of : IsSignatureOf b g) where
       (ap (λ o. option_map_or (is_truth_type b) o false) h, λ zs more. function-over m f (Opt p) (placed b m f (Opt p) h) refl xs u it zs more)
   field-over m f (Set n) h xs u it =
       let q = placed b m f (Set n) h in
-      let found = find-kept (is_place m f) (λ (u : Place). is_set u.field.ty) (flat_map places_in b.models) (place m q.field) q.found (ap is_set q.ty) in
-      (ap (λ o. option_map_or (is_truth_type b) o false) h, λ zs more w at sign.
-      atom-over g zs sign (has (relation_of b m f) u w) (
-        relation_signature b (place m q.field),
-        ap (λ l. slice_get l (relation_of b m f)) of.relations ∙ found-get (is_place m f) (relation_signature b) (relations_of b) (place m q.field) found,
-        it zs more,
-        subst (λ (x : TTy). HasRange g zs w (range.Rec (sort_of b (target_of x)))) (sym q.ty) (at zs (prefix-itself zs)),
-      ))
+      let found = find-kept (is_place m f) (λ (u : Place). is_set u.field.ty) (flat_map places_in b.models) (place m q.field) q.found (ap is_set q.ty) in (
+        ap (λ o. option_map_or (is_truth_type b) o false) h,
+        λ zs more w at sign.
+            atom-over g zs sign (has (relation_of b m f) u w) (
+              relation_signature b (place m q.field),
+              ap (λ l. slice_get l (relation_of b m f)) of.relations ∙ found-get (is_place m f) (relation_signature b) (relations_of b) (place m q.field) found,
+              it zs more,
+              subst (λ (x : TTy). HasRange g zs w (range.Rec (sort_of b (target_of x)))) (sym q.ty) (at zs (prefix-itself zs)),
+            ),
+      )
 
 -- ---- along a script
 
@@ -288,9 +288,10 @@ module _ (t : Script) (is : IsScript t) (g : Signature) (of : IsSignatureOf t.st
       (λ it. principal-over duty.command duty.kind h.kind (sort_of b m ∷ []) (λ q above.
       tree.both (has_right t duty.command target duty.right (bound (sort_of b m) 0) q true above) (has_right t (duty.command - 1) target duty.right (bound (sort_of b m) 0) q false above))
       (λ w zs more at.
-      let row : HasTerm b g zs (base.Id m) (bound (sort_of b m) 0) = λ ws r. it ws (prefix-along (sort_of b m ∷ []) zs ws more r) in
-      (right-over duty.command high target duty.right zs (bound (sort_of b m) 0) row w at true,
-      right-over (duty.command - 1) (omega (arith, low)) target duty.right zs (bound (sort_of b m) 0) row w at false)))
+      let row : HasTerm b g zs (base.Id m) (bound (sort_of b m) 0) = λ ws r. it ws (prefix-along (sort_of b m ∷ []) zs ws more r) in (
+        right-over duty.command high target duty.right zs (bound (sort_of b m) 0) row w at true,
+        right-over (duty.command - 1) (omega (arith, low)) target duty.right zs (bound (sort_of b m) 0) row w at false,
+      )))
     where
       below-count : IsGainDuty t duty → duty.command - 1 < count t
       below-count h =
@@ -298,6 +299,7 @@ module _ (t : Script) (is : IsScript t) (g : Signature) (of : IsSignatureOf t.st
             | None ↦ λ here e. cc
             | Some c ↦ λ here e. slice_get_within t.commands (duty.command - 1) c here
           ] refl h.updated
+
       target-there : IsGainDuty t duty → HasModel b (model_of_target duty.target)
       target-there h =
           elim (command_at t (duty.command - 1)) as (λ (o : Option Command). command_at t (duty.command - 1) ≡ o → option_map_or (updates duty.target duty.right) o false ≡ true
@@ -461,10 +463,13 @@ module _ (t : Script) (is : IsScript t) (g : Signature) (of : IsSignatureOf t.st
       let row : HasTerm t.start g ws (base.Id m) r = λ vs q. it vs (prefix-along (sort_of t.start m ∷ []) zs vs more (prefix-along zs ws vs next q)) in
       let row0 : HasTerm t.start g ws (base.Id m0) r = subst (λ (n : ℕ). HasTerm t.start g ws (base.Id n) r) same_model row in
       let who : OverWho t.start g ws w = overwho-more t.start g zs ws w next its in
-      subst (λ (n : ℕ). IsOver g ws (body w y n)) longer
-      (right-over t is g of k high target Read ws r row w who true,
-      (init-reach-over t.start (schema_at t (k - 1)) (written_at t k) g speaks at y m0 f.ty init asks.2 ws r row0 here (spot - 1) h.used,
-      right-over t is g of k high (on.Field at.model at.field) Read ws y here w who false))))))
+      subst (λ (n : ℕ). IsOver g ws (body w y n)) longer (
+        right-over t is g of k high target Read ws r row w who true,
+        (
+          init-reach-over t.start (schema_at t (k - 1)) (written_at t k) g speaks at y m0 f.ty init asks.2 ws r row0 here (spot - 1) h.used,
+          right-over t is g of k high (on.Field at.model at.field) Read ws y here w who false,
+        ),
+      )))))
 
   formula-over : (duty : Duty) → IsObligation t duty → IsOver g [] (formula_of t duty)
   formula-over duty h =

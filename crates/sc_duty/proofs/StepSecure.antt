@@ -1,16 +1,13 @@
 -- No obligation of a script fails exactly where it is secure at each step.
-use Rattle.std.proofs.Common.{◌≡◌, true, false, Bool, [], Contains}
+use Rattle.std.proofs.Common.{◌≡◌, false, []}
 use Rattle.std.specs.Prelude.{Option, Some, None, ℕ, MatchOption}
 use Rattle.std.specs.Option.{option_map_or}
 use Rattle.std.proofs.lemmas.Bool.{false_from_ne_true}
 use Rattle.sc_schema.specs.Script.{Script, IsScript}
-use Rattle.sc_data.specs.Database.{Database}
-use Rattle.sc_eval.specs.Gain.{IsStart}
 use Rattle.sc_eval.specs.Secure.{IsStepSecure}
 use Rattle.sc_formula.specs.Truth.{truth}
-use Rattle.sc_duty.specs.declared.duty.Duty.{Duty}
 use Rattle.sc_duty.specs.Structures.{structure_of}
-use Rattle.sc_duty.specs.Duties.{obligations_of, gain_formula_of, flow_formula_of}
+use Rattle.sc_duty.specs.Duties.{gain_formula_of, flow_formula_of}
 use Rattle.sc_duty.specs.Gains.{IsGainDuty}
 use Rattle.sc_duty.specs.Flows.{cell_of}
 use Rattle.sc_duty.specs.Listed.{IsUseDuty}
