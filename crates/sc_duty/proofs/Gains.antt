@@ -1,10 +1,10 @@
 -- The formula of an obligation against gains is true where somebody gains.
 use Rattle.std.proofs.Common.{◌≡◌, ℕ, zero, suc, ◌-◌, ◌<◌, ◌≤◌, Bool, true, false, not, ◌&&◌, ◌||◌, List, [], ◌∷◌, length, take, refl, ap, sym, ◌∙◌, subst, arith, inl, inr}
-use Rattle.std.specs.Prelude.{Option, Some, None, ◌==◌, map, is_some, slice_get}
+use Rattle.std.specs.Prelude.{Option, Some, None, ◌==◌, map, slice_get}
 use Rattle.std.specs.List.{list_any}
 use Rattle.std.specs.Option.{option_map_or}
 use Rattle.std.proofs.lemmas.Bool.{eqb-true, eq-eqb}
-use Rattle.std.proofs.lemmas.Option.{slice_get_within, get_or_from_slice_get}
+use Rattle.std.proofs.lemmas.Option.{slice_get_within}
 use Rattle.sc_schema.specs.declared.types.TBase.TheVariants as base
 use Rattle.sc_schema.specs.declared.rights.Kind.{Kind}
 use Rattle.sc_schema.specs.declared.rights.Kind.TheVariants as kind
@@ -12,7 +12,7 @@ use Rattle.sc_schema.specs.declared.rights.Right.{Right}
 use Rattle.sc_schema.specs.declared.rights.Target.{Target}
 use Rattle.sc_schema.specs.declared.rights.Target.TheVariants as on
 use Rattle.sc_schema.specs.Trees.{Policy}
-use Rattle.sc_schema.specs.Schema.{ModelInfo, Schema, model_of, model_of_target}
+use Rattle.sc_schema.specs.Schema.{Schema, model_of_target}
 use Rattle.sc_schema.specs.Typing.{HasModel}
 use Rattle.sc_schema.specs.Commands.{Command, create_model, delete_model, add_static, remove_static, add_principal, add_field, remove_field, update_field, weaken_field, update_model, weaken_model, IsCommand}
 use Rattle.sc_schema.specs.Script.{Script, schema_at, command_at, count, IsScript}
@@ -40,20 +40,14 @@ use Rattle.sc_duty.specs.Gains.{IsGainDuty, GainsSomebody, GainFormulasAreTrue}
 use Rattle.sc_duty.proofs.Signed.{same-unsign, constant-truth, exists-truth}
 use Rattle.sc_duty.proofs.Means.{prefix-more, IsTermOf, IsWho, term-more}
 use Rattle.sc_duty.proofs.Meanings.{Shows, next-is, allowed-means}
-use Rattle.sc_duty.proofs.Running.{model-of-field, command-there, run-after, first-shown, shown-at, model-of-start}
+use Rattle.sc_duty.proofs.Shown.{model-of-field}
+use Rattle.sc_duty.proofs.Created.{command-there, run-after, model-of-start, kind-model}
+use Rattle.sc_duty.proofs.Running.{first-shown, shown-at}
 
 -- ---- searches
 
-some-passes : {A : Type 0} (p : A → Bool) (xs : List A) → list_any p xs ≡ true → (k : ℕ) × (x : A) × (slice_get xs k ≡ Some x) × (p x ≡ true)
-some-passes p [] h = cc
-some-passes p (y ∷ xs) h =
-    elim (or-true (p y) _ h) [
-      | inl here ↦ (0, y, refl, here)
-      | inr later ↦ let one = some-passes p xs later in (suc one.0, one.1, one.2, one.3)
-    ]
-
 -- an id that passes
-some-id : (p : ℕ → Bool) (ids : List ℕ) → list_any p ids ≡ true → (id : ℕ) × (p id ≡ true) × (list_any (λ i. i == id) ids ≡ true)
+pub some-id : (p : ℕ → Bool) (ids : List ℕ) → list_any p ids ≡ true → (id : ℕ) × (p id ≡ true) × (list_any (λ i. i == id) ids ≡ true)
 some-id p [] h = cc
 some-id p (y ∷ ids) h =
     elim (or-true (p y) _ h) [
@@ -63,7 +57,7 @@ some-id p (y ∷ ids) h =
           (x.0, x.1, (elim (y == x.0) as (λ (b : Bool). (b || list_any (λ i. i == x.0) ids) ≡ true) [ true ↦ refl | false ↦ x.2 ]))
     ]
 
-id-passes : (p : ℕ → Bool) (ids : List ℕ) (id : ℕ) → list_any (λ i. i == id) ids ≡ true → p id ≡ true → list_any p ids ≡ true
+pub id-passes : (p : ℕ → Bool) (ids : List ℕ) (id : ℕ) → list_any (λ i. i == id) ids ≡ true → p id ≡ true → list_any p ids ≡ true
 id-passes p [] id h k = cc
 id-passes p (y ∷ ids) id h k =
     elim (y == id) as (λ (b : Bool). (y == id) ≡ b → (b || list_any (λ i. i == id) ids) ≡ true → (p y || list_any p ids) ≡ true) [
@@ -84,7 +78,7 @@ same-number m n h = eqb-true m n h
 -- ---- the command
 
 -- a command that updates a right is on a model that is there, and leaves the database as it is
-updated-there : (s : Schema) (target : Target) (right : Right) (c : Command) → updates target right c ≡ true → IsCommand s c
+pub updated-there : (s : Schema) (target : Target) (right : Right) (c : Command) → updates target right c ≡ true → IsCommand s c
     → HasModel s (model_of_target target) × ((now : Database) → after_command c now ≡ now)
 updated-there s target right (create_model info) h e = cc
 updated-there s target right (delete_model n) h e = cc
@@ -123,7 +117,7 @@ module _ (t : Script) (is : IsScript t) (d : Database) (start : IsStart t d) whe
   ids-after n now (update_model m create delete) h = refl
   ids-after n now (weaken_model m create delete reason) h = refl
 
-  kind-ids : (n k j : ℕ) → k ≤ count t → j ≤ k → is_dropped (kind.Model n) (take k t.commands) ≡ false → ids_of (run_to t j d) n ≡ ids_of d n
+  pub kind-ids : (n k j : ℕ) → k ≤ count t → j ≤ k → is_dropped (kind.Model n) (take k t.commands) ≡ false → ids_of (run_to t j d) n ≡ ids_of d n
   kind-ids n k zero within less none = refl
   kind-ids n k (suc j) within less none =
       let c = command-there t is j (omega (arith, within, less)) in
@@ -131,28 +125,13 @@ module _ (t : Script) (is : IsScript t) (d : Database) (start : IsStart t d) whe
       ∙ ids-after n (run_to t j d) c.0 (none-taken (λ x. option_map_or (same_kind (kind.Model n)) (dropped_by x) false) t.commands k j c.0 none c.1 (omega (arith, less)))
       ∙ kind-ids n k j within (omega (arith, less)) none
 
-  principal-there : (s : Schema) (n : ℕ) → has_kind s (kind.Model n) ≡ true → HasModel s n
-  principal-there s n h =
-      elim (model_of s n) as (λ (o : Option ModelInfo). option_map_or (λ (i : ModelInfo). i.principal) o false ≡ true → is_some o ≡ true) [
-        | None ↦ λ e. cc
-        | Some i ↦ λ e. refl
-      ] h
-
-  kind-model : (n k : ℕ) → is_kind_at t k (kind.Model n) ≡ true → HasModel t.start n
-  kind-model n k h =
-      let one = some-passes (λ s. has_kind s (kind.Model n)) t.schemas (and-left _ _ h) in
-      let same : schema_at t one.0 ≡ one.1 = get_or_from_slice_get t.schemas one.0 one.1 t.start one.2 in
-      let number = slice_get_within t.schemas one.0 one.1 one.2 in
-      let within : one.0 ≤ count t = omega (arith, number, is.schemas) in
-      model-of-start t is d start one.0 within n (subst (λ (s : Schema). HasModel s n) (sym same) (principal-there one.1 n one.3))
-
   -- ---- rights
 
   module _ (k : ℕ) (within : k ≤ count t) (target : Target) (right : Right) where
     abbrev db : Structure
     db = structure_of t.start d
 
-    right-true : (xs : List ℕ) (id : ℕ) (r : Term) → IsTermOf t.start db d xs (base.Id (model_of_target target)) (Id id) r
+    pub right-true : (xs : List ℕ) (id : ℕ) (r : Term) → IsTermOf t.start db d xs (base.Id (model_of_target target)) (Id id) r
         → (q : Principal) (w : Who) → IsWho t.start db d xs q w → (sign : Bool)
         → truth db xs (has_right t k target right r w sign (length xs)) ≡ same_truth sign (has_right_at t k target right d id q)
     right-true xs id r it q w is_who sign =
@@ -214,7 +193,7 @@ module _ (t : Script) (is : IsScript t) (duty : Duty) (of : IsGainDuty t duty) (
   now-ids = ap (λ (e : Database). ids_of e m) of-command.same ∙ before-shows.ids m of-command.there
 
   start-there : HasModel t.start m
-  start-there = model-of-start t is d start (k - 1) (omega (arith, within)) m of-command.there
+  start-there = model-of-start t is (k - 1) (omega (arith, within)) m of-command.there
 
   -- at a record and a principal
   pair-true : (xs : List ℕ) (id : ℕ) (r : Term) → IsTermOf t.start st d xs (base.Id m) (Id id) r → (q : Principal) (w : Who) → IsWho t.start st d xs q w
@@ -236,7 +215,7 @@ module _ (t : Script) (is : IsScript t) (duty : Duty) (of : IsGainDuty t duty) (
   kind-true (kind.Static n) h x id got =
       pair-true (x ∷ []) id (bound (sort_of t.start m) 0) (next-is t.start t.start nothing_written st d d all-shown m start-there [] x id got) (who.Static n) (static n) refl
   kind-true (kind.Model n) h x id got =
-      let model = kind-model t is d start n k h in
+      let model = kind-model t is n k h in
       let first = next-is t.start t.start nothing_written st d d all-shown m start-there [] x id got in
       exists-truth st (x ∷ []) true (sort_of t.start n)
       (both (has_right t k duty.target duty.right (bound (sort_of t.start m) 0) (record_at n (bound (sort_of t.start n) 1)) true 2)

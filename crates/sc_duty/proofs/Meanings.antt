@@ -101,7 +101,7 @@ module _ (b s : Schema) (written : Written) (types : (m f : ℕ) (t : TTy) → t
 
 -- ---- small facts
 
-get-next : (xs ys : List ℕ) (k : ℕ) → slice_get ((xs ++ k ∷ []) ++ ys) (length xs) ≡ Some k
+pub get-next : (xs ys : List ℕ) (k : ℕ) → slice_get ((xs ++ k ∷ []) ++ ys) (length xs) ≡ Some k
 get-next [] ys k = refl
 get-next (x ∷ xs) ys k = get-next xs ys k
 
@@ -124,7 +124,7 @@ module _ (b s : Schema) (written : Written) (st : Structure) (d now : Database) 
         ∙ ap (λ i. Some (sval.Rec i)) (sym (shows.elements n model k id e)),
   )
 
-  longer : (xs : List ℕ) (k : ℕ) → suc (length xs) ≡ length (xs ++ k ∷ [])
+  pub longer : (xs : List ℕ) (k : ℕ) → suc (length xs) ≡ length (xs ++ k ∷ [])
   longer xs k = omega (arith, length-append xs (k ∷ []))
 
   -- whether a principal is a record of the model that passes a test
@@ -173,7 +173,7 @@ module _ (b s : Schema) (written : Written) (st : Structure) (d now : Database) 
   static-is n xs (who.Rec k id) (of_each_kind u) is = absurd is
 
   -- a truth value as a condition
-  holds : (x : Expr) (scope : Scope) (env : Env) (scene : Scene) (xs : List ℕ) → Stands b st d xs scope env scene → IsExpr s scope (Plain base.Bool) x
+  pub holds : (x : Expr) (scope : Scope) (env : Env) (scene : Scene) (xs : List ℕ) → Stands b st d xs scope env scene → IsExpr s scope (Plain base.Bool) x
       → Means b st d xs (Plain base.Bool) (value_of now env x) (cases_of b written scene x)
       → IsConditionOf b st d xs (truth_of (value_of now env x)) (condition_of b (cases_of b written scene x))
   holds x scope env scene xs h e one =

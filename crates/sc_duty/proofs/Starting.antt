@@ -59,7 +59,7 @@ find-behind {A} p (x ∷ xs) ys e =
       | false ↦ λ e. find-behind p xs ys e
     ] e
 
-find-kept : {A : Type 0} (p keep : A → Bool) (xs : List A) (y : A) → find p xs ≡ Some y → keep y ≡ true → find p (filter keep xs) ≡ Some y
+pub find-kept : {A : Type 0} (p keep : A → Bool) (xs : List A) (y : A) → find p xs ≡ Some y → keep y ≡ true → find p (filter keep xs) ≡ Some y
 find-kept p keep [] y e k = cc
 find-kept {A} p keep (x ∷ xs) y e k =
     elim (p x) as (λ (t : Bool). p x ≡ t → cond t (Some x) (find p xs) ≡ Some y → find p (cond (keep x) (x ∷ filter keep xs) (filter keep xs)) ≡ Some y) [
@@ -76,7 +76,7 @@ find-kept {A} p keep (x ∷ xs) y e k =
 
 -- ---- models and fields by their numbers
 
-number-found : (models : List ModelInfo) (m : ℕ) (i : ModelInfo) → model_in models m ≡ Some i → find (λ n. n == m) (model_numbers models) ≡ Some m
+pub number-found : (models : List ModelInfo) (m : ℕ) (i : ModelInfo) → model_in models m ≡ Some i → find (λ n. n == m) (model_numbers models) ≡ Some m
 number-found [] m i e = cc
 number-found (x ∷ models) m i e =
     elim (x.number == m) as (λ (t : Bool). (x.number == m) ≡ t → cond t (Some x) (model_in models m) ≡ Some i
@@ -85,7 +85,7 @@ number-found (x ∷ models) m i e =
       | false ↦ λ here e. number-found models m i e
     ] refl e
 
-abbrev place : ℕ → FieldInfo → Place
+abbrev pub place : ℕ → FieldInfo → Place
 place m g = record { model = m; field = g }
 
 field-placed : (n m f : ℕ) (fields : List FieldInfo) (g : FieldInfo) → (n == m) ≡ true → field_in fields f ≡ Some g
@@ -121,13 +121,13 @@ model-placed (x ∷ models) m f i g e h =
     ] refl e
 
 -- a field that is there, its place among all, and its number
-record Placed (s : Schema) (m f : ℕ) (t : TTy) : Type 0 where
-  field : FieldInfo
-  ty : field.ty ≡ t
-  number : field.number ≡ f
-  found : find (is_place m f) (flat_map places_in s.models) ≡ Some (place m field)
+pub record Placed (s : Schema) (m f : ℕ) (t : TTy) : Type 0 where
+  pub field : FieldInfo
+  pub ty : field.ty ≡ t
+  pub number : field.number ≡ f
+  pub found : find (is_place m f) (flat_map places_in s.models) ≡ Some (place m field)
 
-placed : (s : Schema) (m f : ℕ) (t : TTy) → type_of s m f ≡ Some t → Placed s m f t
+pub placed : (s : Schema) (m f : ℕ) (t : TTy) → type_of s m f ≡ Some t → Placed s m f t
 placed s m f t h =
     elim (field_of s m f) as (λ (o : Option FieldInfo). field_of s m f ≡ o → option_map (λ (g : FieldInfo). g.ty) o ≡ Some t → Placed s m f t) [
       | None ↦ λ here e. cc

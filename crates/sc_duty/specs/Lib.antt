@@ -1,9 +1,14 @@
 pub mod Cases
 pub mod Duties
+pub mod Failing
+pub mod Flows
 pub mod Formulas
 pub mod Gains
+pub mod Listed
+pub mod Over
 pub mod Public
 pub mod Reach
+pub mod Reads
 pub mod Sizes
 pub mod Structures
 pub mod Truths

@@ -7,4 +7,9 @@ pub use Rattle.sc_duty.specs.Duties.{obligations_of, gain_formula_of, flow_formu
 pub use Rattle.sc_duty.specs.Sizes.{size, policy_size, init_size}
 pub use Rattle.sc_duty.specs.Truths.{who_at, own_element, TellsTheTruth, FormulasAreTrue}
 pub use Rattle.sc_duty.specs.Gains.{IsGainDuty, GainsSomebody, GainFormulasAreTrue}
+pub use Rattle.sc_duty.specs.Reads.{read_by, set_read_by, init_read_by, IsUsed, UsesRead}
+pub use Rattle.sc_duty.specs.Flows.{cell_of, IsFlowDuty, LeaksToSomebody, FlowFormulasAreTrue}
+pub use Rattle.sc_duty.specs.Failing.{NoneFails, FalseFormulasSecure}
+pub use Rattle.sc_duty.specs.Listed.{IsUseDuty, IsObligation, ObligationsAreListed}
+pub use Rattle.sc_duty.specs.Over.{IsSignatureOf, FormulasAreOver}
 pub use Rattle.sc_duty.specs.Worked.{WorkedFormulas, ExpandedIsCounted}

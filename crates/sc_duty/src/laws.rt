@@ -1,6 +1,11 @@
 //! Laws over the definitions alone. Each is the contract of a function that does nothing.
 
+ghost use Rattle.sc_duty.specs.Failing.{FalseFormulasSecure};
+ghost use Rattle.sc_duty.specs.Flows.{FlowFormulasAreTrue};
 ghost use Rattle.sc_duty.specs.Gains.{GainFormulasAreTrue};
+ghost use Rattle.sc_duty.specs.Listed.{ObligationsAreListed};
+ghost use Rattle.sc_duty.specs.Over.{FormulasAreOver};
+ghost use Rattle.sc_duty.specs.Reads.{UsesRead};
 ghost use Rattle.sc_duty.specs.Truths.{FormulasAreTrue};
 ghost use Rattle.sc_duty.specs.Worked.{ExpandedIsCounted, WorkedFormulas};
 
@@ -14,6 +19,36 @@ pub fn formulas_are_true()
 /// where some principal of its kind gains the right at its command.
 pub fn gain_formulas_are_true()
     ensures { GainFormulasAreTrue }
+{}
+
+/// On each start database of a script, the formula of an obligation against flow leaks is true
+/// exactly where some principal of its kind may read the added field on a record and may not read
+/// a cell that the use reads there.
+pub fn flow_formulas_are_true()
+    ensures { FlowFormulasAreTrue }
+{}
+
+/// The list of a script's obligations has just those: of each right that a command updates, and of
+/// each use in the initialiser of a field that a command adds, with each kind at the command.
+pub fn obligations_are_listed()
+    ensures { ObligationsAreListed }
+{}
+
+/// The formula of each obligation of a script is closed, and over the signature of the schema of
+/// its start databases.
+pub fn formulas_are_over()
+    ensures { FormulasAreOver }
+{}
+
+/// No formula of an obligation of a script is true on the structure of a start database exactly
+/// where the script is secure at each of its commands.
+pub fn false_formulas_secure()
+    ensures { FalseFormulasSecure }
+{}
+
+/// What an initialiser touches on a database is what its uses of fields read.
+pub fn uses_read_what_is_touched()
+    ensures { UsesRead }
 {}
 
 /// Worked formulas and sizes, which show what the definitions give on a schema of users.

@@ -14,6 +14,10 @@
 //! | `specs/Duties.antt` | the obligations of a script, and the formula of each |
 //! | `specs/Sizes.antt` | the sizes of policies and initialisers |
 //! | `specs/Gains.antt` | where the formula of an obligation against gains is true |
+//! | `specs/Reads.antt`, `specs/Flows.antt` | what a use reads, and where the formula of an obligation against flow leaks is true |
+//! | `specs/Listed.antt` | what the obligations in the list are |
+//! | `specs/Over.antt` | that formulas are closed and over the signature |
+//! | `specs/Failing.antt` | scripts none of whose obligations fails |
 //! | `specs/Truths.antt` | the formulas of conditions and policies tell what they mean |
 #![tactic(auto)]
 
@@ -21,4 +25,8 @@ mod duty;
 mod laws;
 
 pub use duty::Duty;
-pub use laws::{expanded_is_counted, formulas_are_true, gain_formulas_are_true, worked_formulas};
+pub use laws::{
+    expanded_is_counted, false_formulas_secure, flow_formulas_are_true, formulas_are_over,
+    formulas_are_true, gain_formulas_are_true, obligations_are_listed, uses_read_what_is_touched,
+    worked_formulas,
+};

@@ -1,0 +1,20 @@
+-- The formulas of obligations are closed and over the signature of the schema of start databases.
+use Rattle.std.specs.Prelude.{◌≡◌, [], Contains}
+use Rattle.sc_schema.specs.Schema.{Schema}
+use Rattle.sc_schema.specs.Script.{Script, IsScript}
+use Rattle.sc_formula.specs.declared.structure.Signature.{Signature}
+use Rattle.sc_formula.specs.Over.{IsOver, IsClosed}
+use Rattle.sc_duty.specs.declared.duty.Duty.{Duty}
+use Rattle.sc_duty.specs.Structures.{sorts_of, function_signatures, relation_signatures}
+use Rattle.sc_duty.specs.Duties.{obligations_of, formula_of}
+
+-- the signature of a schema
+pub record IsSignatureOf (s : Schema) (g : Signature) : Type 0 where
+  pub sorts : g.sorts ≡ sorts_of s
+  pub functions : g.funs ≡ function_signatures s
+  pub relations : g.sets ≡ relation_signatures s
+
+abbrev pub FormulasAreOver : Type 0
+FormulasAreOver =
+    (t : Script) → IsScript t → (g : Signature) → IsSignatureOf t.start g → (duty : Duty) → Contains (obligations_of t) duty
+    → IsOver g [] (formula_of t duty) × IsClosed 0 (formula_of t duty)
