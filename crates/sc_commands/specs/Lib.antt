@@ -1,0 +1,7 @@
+pub mod Changes
+pub mod Commands
+pub mod Public
+pub mod Resolved
+pub mod Scripts
+pub mod Users
+pub mod Worked
