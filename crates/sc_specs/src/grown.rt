@@ -1,6 +1,6 @@
-//! Schemas with one more static or model.
+//! Copies of schemas, and schemas with one more static or model.
 
-ghost use Rattle.std.specs.Prelude.{◌≡◌, Ok};
+ghost use Rattle.std.specs.Prelude.{◌≡◌, IfOk, Ok};
 ghost use Rattle.sc_schema.specs.Commands.{add_static, create_model, schema_after};
 ghost use Rattle.sc_schema.specs.SchemaViews.{model_info_of, static_info_of};
 ghost use Rattle.sc_typing.specs.Names.{plain_of};
@@ -8,6 +8,15 @@ ghost use Rattle.sc_specs.specs.InTurn.{Becomes};
 
 use sc_schema::{ModelInfo, Schema, StaticInfo};
 use sc_typing::TypeErr;
+use std::alloc::{AllocError, Global};
+
+/// An equal schema, which shares the policies and initialisers.
+#[tactic(auto, unfolding(sc_typing::specs::Names::plain_of))]
+pub fn copied(alloc: Global, schema: &Schema) -> Result<Schema, AllocError>
+    ensures { IfOk result (λ copy. plain_of copy ≡ plain_of schema.now) }
+{
+    schema.copy(alloc)
+}
 
 /// Adds a static.
 #[tactic(auto, using(crate::proofs::Plain::pushed_static))]

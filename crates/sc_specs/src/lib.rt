@@ -3,7 +3,7 @@
 //! | module | holds |
 //! |---|---|
 //! | `names` | names that are added |
-//! | `grown` | schemas with one more static or model |
+//! | `grown` | copies of schemas, and schemas with one more static or model |
 //! | `stage` | `Stage`, how far models are looked at |
 //! | `models` | models that are added to a schema |
 //! | `specs` | specifications |
@@ -17,7 +17,7 @@ mod names;
 mod specs;
 mod stage;
 
-pub use grown::{push_model, push_static};
+pub use grown::{copied, push_model, push_static};
 pub use laws::worked_specs;
 pub use models::{created_model, policy_over, typed_field, with_models};
 pub use names::{new_model, new_static, one_more};

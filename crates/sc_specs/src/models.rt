@@ -7,7 +7,7 @@ ghost use Rattle.sc_typing.specs.Names.{plain_of};
 ghost use Rattle.sc_specs.specs.InTurn.{Becomes, GivesSeen, in_turn};
 ghost use Rattle.sc_specs.specs.Models as spec;
 
-use crate::grown::push_model;
+use crate::grown::{copied, push_model};
 use crate::names::{fields_differ, new_model};
 use crate::stage::Stage;
 use sc_schema::{FieldInfo, FieldNo, ModelInfo, ModelNo, Schema, TPolicy};
@@ -106,6 +106,33 @@ pub fn typed_field(
     })
 }
 
+/// Adds the next field of the model.
+#[tactic(auto, using(crate::proofs::Plain::next_field_typed, crate::proofs::Plain::next_field_at_fault))]
+fn next_field(
+    alloc: Global,
+    stage: Stage,
+    over: &Schema,
+    model: ModelNo,
+    first: FieldNo,
+    fields: &mut Vec<FieldInfo>,
+    f: &FieldDef,
+) -> Result<(), TypeErr>
+    ensures { Becomes (spec.with_next_field stage (plain_of over.now) model first
+        (map field_info_of fields.old.items) f.now)
+        (map field_info_of fields.new.items) result }
+{
+    // So many fields do not fit in memory.
+    let Ok(count) = u32::try_from(fields.len()) else {
+        return Err(TypeErr::OutOfMemory);
+    };
+    let Some(number) = first.checked_add(count) else {
+        return Err(TypeErr::OutOfMemory);
+    };
+    let field = typed_field(alloc, stage, over, model, number, f)?;
+    fields.push(field)?;
+    Ok(())
+}
+
 /// The fields of the model, numbered from the first on.
 fn typed_fields(
     alloc: Global,
@@ -119,22 +146,15 @@ fn typed_fields(
         (in_turn (spec.with_next_field stage (plain_of over.now) model first) [] defs.now) result }
 {
     let mut fields = Vec::new(alloc);
-    let mut number = first;
     for f in defs {
-        let field = typed_field(alloc, stage, over, model, number, f)?;
-        fields.push(field)?;
-        // So many fields do not fit in memory.
-        let Some(next) = number.checked_add(1) else {
-            return Err(TypeErr::OutOfMemory);
-        };
-        number = next;
+        next_field(alloc, stage, over, model, first, &mut fields, f)?;
     }
     Ok(Items::from_vec(fields))
 }
 
 /// A model with the next numbers of the schema that it is added to, as far as the stage looks at
 /// it.
-#[tactic(auto, unfolding(crate::specs::Models::typed_model))]
+#[tactic(auto, unfolding(crate::specs::Models::typed_model, sc_typing::specs::Names::plain_of))]
 fn typed_model(
     alloc: Global,
     stage: Stage,
@@ -181,7 +201,7 @@ fn with_typed(
 fn all_named(alloc: Global, schema: &Schema, defs: &[ModelDef]) -> Result<Schema, TypeErr>
     ensures { GivesSeen plain_of (in_turn spec.with_names (plain_of schema.now) defs.now) result }
 {
-    let mut named = schema.copy(alloc)?;
+    let mut named = copied(alloc, schema)?;
     for d in defs {
         with_names(alloc, &mut named, d)?;
     }
@@ -200,7 +220,7 @@ fn all_typed(
         (in_turn (spec.with_typed stage (plain_of over.now)) (plain_of schema.now) defs.now)
         result }
 {
-    let mut typed = schema.copy(alloc)?;
+    let mut typed = copied(alloc, schema)?;
     for d in defs {
         with_typed(alloc, stage, over, &mut typed, d)?;
     }
@@ -219,16 +239,12 @@ pub fn with_models(alloc: Global, schema: &Schema, defs: &[ModelDef]) -> Result<
 
 /// The one model that is added to the schema.
 #[tactic(auto, unfolding(crate::specs::Models::created_model))]
-pub fn created_model(
-    alloc: Global,
-    schema: &Schema,
-    d: &ModelDef,
-) -> Result<ModelInfo, TypeErr>
+pub fn created_model(alloc: Global, schema: &Schema, d: &ModelDef) -> Result<ModelInfo, TypeErr>
     ensures { GivesSeen model_info_of (spec.created_model (plain_of schema.now) d.now) result }
 {
-    let mut named = schema.copy(alloc)?;
+    let mut named = copied(alloc, schema)?;
     with_names(alloc, &mut named, d)?;
-    let mut known = schema.copy(alloc)?;
+    let mut known = copied(alloc, schema)?;
     with_typed(alloc, Stage::Types, &named, &mut known, d)?;
     typed_model(alloc, Stage::Policies, &known, schema, d)
 }

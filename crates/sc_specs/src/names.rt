@@ -60,15 +60,14 @@ pub fn new_model(schema: &Schema, x: &Named) -> Result<(), TypeErr>
     one_more(taken, schema.models.len(), MOST_MODELS, x)
 }
 
-#[tactic(auto, using(crate::proofs::Plain::any_seen))]
 fn has_field(fields: &[FieldDef], name: &[u8]) -> bool
-    ensures { result ≡ list_any (λ taken. bytes_eq taken name.now)
-        (map (λ f. f.name.name) fields.now) }
+    ensures { result ≡ list_any (λ f. bytes_eq f.name.name name.now) fields.now }
 {
     fields.iter().any(|f| same_name(f.name.name.bytes(), name))
 }
 
 /// Whether a model may have a field of this name after these fields.
+#[tactic(auto, using(crate::proofs::Plain::new_field_seen))]
 fn new_field(fields: &[FieldDef], x: &Named) -> Result<(), TypeErr>
     ensures { result ≡ spec.new_field (map (λ f. f.name.name) fields.now) x.now }
 {
@@ -77,6 +76,7 @@ fn new_field(fields: &[FieldDef], x: &Named) -> Result<(), TypeErr>
 }
 
 /// Whether the names of the fields of a model differ.
+#[tactic(auto, unfolding(crate::specs::NewNames::fields_differ))]
 pub fn fields_differ(fields: &[FieldDef]) -> Result<(), TypeErr>
     ensures { result ≡ spec.fields_differ fields.now }
 {
