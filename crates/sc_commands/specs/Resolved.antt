@@ -56,20 +56,20 @@ given s m None = Ok None
 given s m (Some p) = policy_over s m p >>= (λ policy. Ok (Some policy))
 
 -- a text that is not empty
+abbrev pub text_given : (at : ℕ) → List ℕ → Checked (List ℕ)
+text_given at [] = Err (EmptyReason at)
+text_given at (byte ∷ rest) = Ok (byte ∷ rest)
+
 unfoldable pub reason_given : Reason → Checked (List ℕ)
-reason_given reason = text_of reason.text
-  where
-    text_of : List ℕ → Checked (List ℕ)
-    text_of [] = Err (EmptyReason reason.at)
-    text_of (byte ∷ rest) = Ok (byte ∷ rest)
+reason_given reason = text_given reason.at reason.text
 
 -- nothing is left that uses it; a fault stands at its name
+abbrev pub not_held : (at : ℕ) → Option UsedBy → Checked (Unit {0})
+not_held at None = Ok tt
+not_held at (Some user) = Err (StillUsed at user)
+
 unfoldable pub unused : Schema → Thing → Named → Checked (Unit {0})
-unused s thing x = by (first_user s thing)
-  where
-    by : Option UsedBy → Checked (Unit {0})
-    by None = Ok tt
-    by (Some user) = Err (StillUsed x.at user)
+unused s thing x = not_held x.at (first_user s thing)
 
 unfoldable pub init_over : Schema → ℕ → TTy → Named → tree.Init → Checked Init
 init_over s m ty x init = typed_init s m ty x init >>= (λ typed. Ok (init_of typed))

@@ -83,7 +83,12 @@ fn after_field_policies(
 {
     let read = copy_given(read)?;
     let write = copy_given(write)?;
-    changed(alloc, schema, model, &Change::FieldPolicies(field, read, write))
+    changed(
+        alloc,
+        schema,
+        model,
+        &Change::FieldPolicies(field, read, write),
+    )
 }
 
 fn after_policies(
@@ -121,9 +126,7 @@ pub fn schema_after(alloc: Global, schema: &Schema, c: &TCommand) -> Result<Sche
         | TCommand::WeakenFieldPolicy(m, f, read, write, _) => {
             Ok(after_field_policies(alloc, schema, *m, *f, read, write)?)
         }
-        TCommand::UpdatePolicy(m, create, delete)
-        | TCommand::WeakenPolicy(m, create, delete, _) => {
-            Ok(after_policies(alloc, schema, *m, create, delete)?)
-        }
+        TCommand::UpdatePolicy(m, create, delete) | TCommand::WeakenPolicy(m, create, delete, _) =>
+            { Ok(after_policies(alloc, schema, *m, create, delete)?) }
     }
 }

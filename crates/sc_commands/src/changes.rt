@@ -93,11 +93,7 @@ fn fields_with(
 }
 
 /// The model, changed.
-fn changed_model(
-    alloc: Global,
-    info: &ModelInfo,
-    change: &Change,
-) -> Result<ModelInfo, AllocError>
+fn changed_model(alloc: Global, info: &ModelInfo, change: &Change) -> Result<ModelInfo, AllocError>
     ensures { IfOk result (λ changed.
         model_info_of changed ≡ change_of change.now (model_info_of info.now)) }
 {
@@ -176,11 +172,7 @@ fn models_without(
 }
 
 /// The schema without the model of this number.
-pub fn without_model(
-    alloc: Global,
-    schema: &Schema,
-    number: ModelNo,
-) -> Result<Schema, AllocError>
+pub fn without_model(alloc: Global, schema: &Schema, number: ModelNo) -> Result<Schema, AllocError>
     ensures { IfOk result (λ after. plain_of after
         ≡ effect.schema_after (plain_of schema.now) (effect.delete_model number)) }
 {

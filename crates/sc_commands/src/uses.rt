@@ -43,11 +43,7 @@ fn expr_uses(e: &TExpr, thing: Thing) -> bool
     ensures { result ≡ rule.expr_uses thing (view.expr_of e.now) }
 {
     match e {
-        TExpr::Flag(_)
-        | TExpr::Num(_)
-        | TExpr::Str(_)
-        | TExpr::Var(..)
-        | TExpr::NoneLit => false,
+        TExpr::Flag(_) | TExpr::Num(_) | TExpr::Str(_) | TExpr::Var(..) | TExpr::NoneLit => false,
         TExpr::SomeLit(inner) => expr_uses(inner.get(), thing),
         TExpr::Get(of, m, f) => expr_uses(of.get(), thing) || thing.is_field(*m, *f),
         TExpr::Eq(a, b, _) => expr_uses(a.get(), thing) || expr_uses(b.get(), thing),
