@@ -23,6 +23,7 @@ mod vars;
 
 pub use asked::{Content, Source, Typed};
 pub use laws::worked_types;
+pub use names::{field_named, is_principal, model_named, same_name, static_named};
 pub use type_err::{TypeErr, UsedBy};
 pub use types::typed_type;
 pub use vars::Var;
