@@ -1,8 +1,8 @@
 -- What commands change of one model.
-use Rattle.std.specs.Prelude.{ℕ, true, Option}
+use Rattle.std.specs.Prelude.{ℕ, ◌+◌, true, [], ◌∷◌, ◌++◌, Option}
 use Rattle.std.specs.Option.{option_map}
 use Rattle.sc_schema.specs.Trees.{Policy}
-use Rattle.sc_schema.specs.Schema.{FieldInfo, ModelInfo, Schema}
+use Rattle.sc_schema.specs.Schema.{FieldInfo, ModelInfo, Added, Schema}
 use Rattle.sc_schema.specs.Commands.{change_model, given_or, with_field, with_field_policies, with_model_policies, without_field}
 use Rattle.sc_schema.specs.SchemaViews.{field_info_of}
 use Rattle.sc_schema.specs.Views.{policy_of}
@@ -13,8 +13,11 @@ use Rattle.sc_commands.specs.declared.change.Change.TheVariants as c
 abbrev pub with_given : Option Policy → Option Policy → FieldInfo → FieldInfo
 with_given read write f = record f { read = given_or read f.read; write = given_or write f.write }
 
+abbrev pub as_principal : ModelInfo → ModelInfo
+as_principal info = record info { principal = true }
+
 abbrev pub change_of : Change → ModelInfo → ModelInfo
-change_of c.Principal info = record info { principal = true }
+change_of c.Principal info = as_principal info
 change_of (c.Field f) info = with_field (field_info_of f) info
 change_of (c.WithoutField f) info = without_field f info
 change_of (c.FieldPolicies f read write) info =
@@ -24,3 +27,7 @@ change_of (c.Policies create delete) info =
 
 abbrev pub changed_schema : Schema → ℕ → (ModelInfo → ModelInfo) → Schema
 changed_schema s m change = record s { models = change_model m change s.models }
+
+-- a field that the script added, and its initialiser
+abbrev pub with_added : Schema → Added → Schema
+with_added s a = record s { next_field = s.next_field + 1; added = s.added ++ a ∷ [] }

@@ -1,4 +1,5 @@
 pub mod Changes
+pub mod CommandLaw
 pub mod Commands
 pub mod Public
 pub mod Resolved

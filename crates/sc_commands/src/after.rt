@@ -6,13 +6,14 @@ ghost use Rattle.sc_schema.specs.Commands as effect;
 ghost use Rattle.sc_schema.specs.SchemaViews.{command_of, field_info_of, model_info_of, static_info_of};
 ghost use Rattle.sc_schema.specs.Views.{init_of, policy_of};
 ghost use Rattle.sc_typing.specs.Names.{plain_of};
-ghost use Rattle.sc_specs.specs.InTurn.{GivesSeen};
+ghost use Rattle.sc_specs.specs.InTurn.{Becomes, GivesSeen};
+ghost use Rattle.sc_commands.specs.Changes.{with_added};
 
 use crate::change::Change;
 use crate::changes::{changed, without_model, without_static};
 use crate::parts::Given;
 use sc_schema::{FieldInfo, FieldNo, ModelInfo, ModelNo, Schema, StaticInfo, TCommand, TInit};
-use sc_specs::{push_model, push_static};
+use sc_specs::{copied, push_model, push_static};
 use sc_typing::TypeErr;
 use std::alloc::{AllocError, Global};
 use std::rc::Rc;
@@ -31,7 +32,7 @@ fn after_model(alloc: Global, schema: &Schema, info: &ModelInfo) -> Result<Schem
     ensures { GivesSeen plain_of
         (Ok (effect.schema_after (plain_of schema.now) (effect.create_model (model_info_of info.now)))) result }
 {
-    let mut after = schema.copy(alloc)?;
+    let mut after = copied(alloc, schema)?;
     let info = info.copy(alloc)?;
     push_model(&mut after, info)?;
     Ok(after)
@@ -41,10 +42,30 @@ fn after_static(alloc: Global, schema: &Schema, info: &StaticInfo) -> Result<Sch
     ensures { GivesSeen plain_of
         (Ok (effect.schema_after (plain_of schema.now) (effect.add_static (static_info_of info.now)))) result }
 {
-    let mut after = schema.copy(alloc)?;
+    let mut after = copied(alloc, schema)?;
     let info = info.copy(alloc)?;
     push_static(&mut after, info)?;
     Ok(after)
+}
+
+/// Adds a field that the script added, and its initialiser.
+fn push_added(
+    schema: &mut Schema,
+    model: ModelNo,
+    field: FieldNo,
+    init: Rc<TInit>,
+) -> Result<(), TypeErr>
+    ensures { Becomes (Ok (with_added (plain_of schema.old)
+        (record { model = model; field = field; init = init_of init.value })))
+        (plain_of schema.new) result }
+{
+    // So many fields do not fit in memory.
+    let Some(next) = schema.next_field.checked_add(1) else {
+        return Err(TypeErr::OutOfMemory);
+    };
+    schema.added.push((model, field, init))?;
+    schema.next_field = next;
+    Ok(())
 }
 
 fn after_field(
@@ -57,16 +78,23 @@ fn after_field(
     ensures { GivesSeen plain_of (Ok (effect.schema_after (plain_of schema.now)
         (effect.add_field model (field_info_of field.now) (init_of init.now.value)))) result }
 {
-    // So many fields do not fit in memory.
-    let Some(next) = schema.next_field.checked_add(1) else {
-        return Err(TypeErr::OutOfMemory);
-    };
-    let change = Change::Field(field.copy(alloc)?);
-    let mut after = changed(alloc, schema, model, &change)?;
+    let copy = field.copy(alloc)?;
     let init = init.clone()?;
-    after.added.push((model, field.number, init))?;
-    after.next_field = next;
+    let mut after = changed(alloc, schema, model, &Change::Field(copy))?;
+    push_added(&mut after, model, field.number, init)?;
     Ok(after)
+}
+
+fn after_removed_field(
+    alloc: Global,
+    schema: &Schema,
+    model: ModelNo,
+    field: FieldNo,
+) -> Result<Schema, AllocError>
+    ensures { IfOk result (λ after. plain_of after
+        ≡ effect.schema_after (plain_of schema.now) (effect.remove_field model field)) }
+{
+    changed(alloc, schema, model, &Change::WithoutField(field))
 }
 
 fn after_field_policies(
@@ -119,9 +147,7 @@ pub fn schema_after(alloc: Global, schema: &Schema, c: &TCommand) -> Result<Sche
         TCommand::RemoveStatic(n) => Ok(without_static(alloc, schema, *n)?),
         TCommand::AddPrincipal(m) => Ok(changed(alloc, schema, *m, &Change::Principal)?),
         TCommand::AddField(m, f, init) => after_field(alloc, schema, *m, f, init),
-        TCommand::RemoveField(m, f) => {
-            Ok(changed(alloc, schema, *m, &Change::WithoutField(*f))?)
-        }
+        TCommand::RemoveField(m, f) => Ok(after_removed_field(alloc, schema, *m, *f)?),
         TCommand::UpdateFieldPolicy(m, f, read, write)
         | TCommand::WeakenFieldPolicy(m, f, read, write, _) => {
             Ok(after_field_policies(alloc, schema, *m, *f, read, write)?)

@@ -6,7 +6,7 @@ ghost use Rattle.sc_schema.specs.Commands as effect;
 ghost use Rattle.sc_schema.specs.SchemaViews.{field_info_of, model_info_of, static_info_of};
 ghost use Rattle.sc_schema.specs.Views.{policy_of};
 ghost use Rattle.sc_typing.specs.Names.{plain_of};
-ghost use Rattle.sc_commands.specs.Changes.{change_of, changed_schema, with_given};
+ghost use Rattle.sc_commands.specs.Changes.{as_principal, change_of, changed_schema, with_given};
 
 use crate::change::Change;
 use crate::parts::Given;
@@ -92,27 +92,97 @@ fn fields_with(
     Ok(Items::from_vec(changed))
 }
 
+/// The model as a principal.
+fn as_principal(alloc: Global, info: &ModelInfo) -> Result<ModelInfo, AllocError>
+    ensures { IfOk result (λ changed.
+        model_info_of changed ≡ as_principal (model_info_of info.now)) }
+{
+    let mut changed = info.copy(alloc)?;
+    changed.principal = true;
+    Ok(changed)
+}
+
+/// The model with one more field.
+fn model_with_field(
+    alloc: Global,
+    info: &ModelInfo,
+    field: &FieldInfo,
+) -> Result<ModelInfo, AllocError>
+    ensures { IfOk result (λ changed. model_info_of changed
+        ≡ effect.with_field (field_info_of field.now) (model_info_of info.now)) }
+{
+    let mut changed = info.copy(alloc)?;
+    let field = field.copy(alloc)?;
+    changed.fields.push(field)?;
+    Ok(changed)
+}
+
+/// The model without the field of this number.
+fn model_without_field(
+    alloc: Global,
+    info: &ModelInfo,
+    number: FieldNo,
+) -> Result<ModelInfo, AllocError>
+    ensures { IfOk result (λ changed.
+        model_info_of changed ≡ effect.without_field number (model_info_of info.now)) }
+{
+    let fields = fields_without(alloc, info.fields.as_slice(), number)?;
+    let mut changed = info.copy(alloc)?;
+    changed.fields = fields;
+    Ok(changed)
+}
+
+/// The model, of which the field of this number has the policies that are given.
+fn model_with_field_policies(
+    alloc: Global,
+    info: &ModelInfo,
+    number: FieldNo,
+    read: &Given,
+    write: &Given,
+) -> Result<ModelInfo, AllocError>
+    ensures { IfOk result (λ changed. model_info_of changed
+        ≡ effect.with_field_policies number (option_map (λ p. policy_of p.value) read.now)
+        (option_map (λ p. policy_of p.value) write.now) (model_info_of info.now)) }
+{
+    let fields = fields_with(alloc, info.fields.as_slice(), number, read, write)?;
+    let mut changed = info.copy(alloc)?;
+    changed.fields = fields;
+    Ok(changed)
+}
+
+/// The model with the policies that are given.
+fn model_with_policies(
+    alloc: Global,
+    info: &ModelInfo,
+    create: &Given,
+    delete: &Given,
+) -> Result<ModelInfo, AllocError>
+    ensures { IfOk result (λ changed. model_info_of changed
+        ≡ effect.with_model_policies (option_map (λ p. policy_of p.value) create.now)
+        (option_map (λ p. policy_of p.value) delete.now) (model_info_of info.now)) }
+{
+    let create = given_or(create, &info.create)?;
+    let delete = given_or(delete, &info.delete)?;
+    let mut changed = info.copy(alloc)?;
+    changed.create = create;
+    changed.delete = delete;
+    Ok(changed)
+}
+
 /// The model, changed.
 fn changed_model(alloc: Global, info: &ModelInfo, change: &Change) -> Result<ModelInfo, AllocError>
     ensures { IfOk result (λ changed.
         model_info_of changed ≡ change_of change.now (model_info_of info.now)) }
 {
-    let mut changed = info.copy(alloc)?;
     match change {
-        Change::Principal => changed.principal = true,
-        Change::Field(field) => changed.fields.push(field.copy(alloc)?)?,
-        Change::WithoutField(number) => {
-            changed.fields = fields_without(alloc, info.fields.as_slice(), *number)?;
-        }
+        Change::Principal => as_principal(alloc, info),
+        Change::Field(field) => model_with_field(alloc, info, field),
+        Change::WithoutField(number) => model_without_field(alloc, info, *number),
         Change::FieldPolicies(number, read, write) => {
-            changed.fields = fields_with(alloc, info.fields.as_slice(), *number, read, write)?;
+            model_with_field_policies(alloc, info, *number, read, write)
         }
-        Change::Policies(create, delete) => {
-            changed.create = given_or(create, &info.create)?;
-            changed.delete = given_or(delete, &info.delete)?;
-        }
+        Change::Policies(create, delete) => model_with_policies(alloc, info, create, delete),
     }
-    Ok(changed)
 }
 
 /// The models, of which the one of this number is changed.
@@ -147,8 +217,9 @@ pub fn changed(
     ensures { IfOk result (λ after. plain_of after
         ≡ changed_schema (plain_of schema.now) number (change_of change.now)) }
 {
+    let models = changed_models(alloc, schema.models.as_slice(), number, change)?;
     let mut after = schema.copy(alloc)?;
-    after.models = changed_models(alloc, schema.models.as_slice(), number, change)?;
+    after.models = models;
     Ok(after)
 }
 
@@ -176,8 +247,9 @@ pub fn without_model(alloc: Global, schema: &Schema, number: ModelNo) -> Result<
     ensures { IfOk result (λ after. plain_of after
         ≡ effect.schema_after (plain_of schema.now) (effect.delete_model number)) }
 {
+    let models = models_without(alloc, schema.models.as_slice(), number)?;
     let mut after = schema.copy(alloc)?;
-    after.models = models_without(alloc, schema.models.as_slice(), number)?;
+    after.models = models;
     Ok(after)
 }
 
@@ -192,10 +264,11 @@ fn statics_without(
 {
     let mut rest = Vec::new(alloc);
     for info in statics {
-        if info.number != number {
-            let copy = info.copy(alloc)?;
-            rest.push(copy)?;
+        if info.number == number {
+            continue;
         }
+        let copy = info.copy(alloc)?;
+        rest.push(copy)?;
     }
     Ok(Items::from_vec(rest))
 }
@@ -209,7 +282,8 @@ pub fn without_static(
     ensures { IfOk result (λ after. plain_of after
         ≡ effect.schema_after (plain_of schema.now) (effect.remove_static number)) }
 {
+    let statics = statics_without(alloc, schema.statics.as_slice(), number)?;
     let mut after = schema.copy(alloc)?;
-    after.statics = statics_without(alloc, schema.statics.as_slice(), number)?;
+    after.statics = statics;
     Ok(after)
 }

@@ -27,7 +27,7 @@ mod uses;
 
 pub use after::schema_after;
 pub use change::Change;
-pub use laws::worked_commands;
+pub use laws::{commands_are_resolved, worked_commands};
 pub use resolve::resolved;
 pub use script_err::ScriptErr;
 pub use thing::Thing;

@@ -73,7 +73,7 @@ fn removed_field(schema: &Schema, model: &Named, x: &Named) -> Result<TCommand, 
 }
 
 /// A new field of the model, whose policies see it.
-#[tactic(auto, unfolding(crate::specs::Resolved::field_seen))]
+#[tactic(auto, using(crate::proofs::Changed::seen_fails))]
 fn field_seen(
     alloc: Global,
     schema: &Schema,

@@ -109,7 +109,7 @@ fn user_in_models(thing: Thing, models: &[ModelInfo]) -> Option<UsedBy>
 }
 
 /// The first user of the thing in the order of the schema, but what goes away with it.
-#[tactic(auto, unfolding(crate::specs::Users::first_user))]
+#[tactic(auto, unfolding(crate::specs::Users::first_user, sc_typing::specs::Names::plain_of))]
 pub fn first_user(schema: &Schema, thing: Thing) -> Option<UsedBy>
     ensures { result ≡ rule.first_user (plain_of schema.now) thing }
 {
