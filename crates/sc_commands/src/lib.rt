@@ -21,6 +21,8 @@ mod laws;
 mod parts;
 mod resolve;
 mod script_err;
+#[cfg(test)]
+mod tests;
 mod thing;
 mod users;
 mod uses;
