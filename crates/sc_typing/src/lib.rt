@@ -31,6 +31,7 @@ mod vars;
 
 pub use asked::{Content, Source, Typed};
 pub use laws::{typed_is_well_typed, worked_types};
+pub use names::{field_named, is_principal, model_named, same_name, static_named};
 pub use policies::{typed_init, typed_policy};
 pub use type_err::{TypeErr, UsedBy};
 pub use types::typed_type;

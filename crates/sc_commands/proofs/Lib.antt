@@ -1,0 +1,5 @@
+pub mod Changed
+pub mod CommandLaw
+pub mod Counted
+pub mod Missing
+pub mod WorkedCommands
