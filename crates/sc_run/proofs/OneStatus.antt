@@ -2,9 +2,15 @@
 use Rattle.std.proofs.Common.{◌≡◌, ◌<◌, ◌≤◌, ℕ, List, refl, ap, sym, ◌∙◌, subst, length, arith}
 use Rattle.std.specs.Prelude.{⊤, Option, Some, None, IsSomeAnd, Result, Ok, Err}
 use Rattle.sc_flow.specs.Files.{Files}
-use Rattle.sc_ast.specs.declared.models.Spec.{Spec}
-use Rattle.sc_ast.specs.declared.commands.Script.{Script}
-use Rattle.sc_parser.specs.Texts.{IsSpecText, IsScriptText}
+use Rattle.sc_ast.specs.declared.models.Spec as ast_spec
+use Rattle.sc_ast.specs.declared.commands.Script as ast_script
+use Rattle.sc_tree.specs.declared.models.Spec.{Spec}
+use Rattle.sc_tree.specs.declared.commands.Script.{Script}
+use Rattle.sc_tree.specs.ExprGrammar.{G}
+use Rattle.sc_tree.specs.Grammar.{spec_form, script_form}
+use Rattle.sc_tree.specs.Texts.{IsTextOf}
+use Rattle.sc_texts.specs.Refused.{IsRefusedAs}
+use Rattle.sc_texts.specs.declared.syntax_err.SyntaxErr.{SyntaxErr}
 use Rattle.sc_check.specs.declared.outcome.Outcome.{Outcome}
 use Rattle.sc_check.specs.declared.outcome.Outcome.TheVariants as outcome
 use Rattle.sc_check.specs.declared.outcome.Leak.{Leak}
@@ -81,7 +87,7 @@ given-refused : (file : Option (List ℕ)) (files : Files) (name text : List ℕ
 given-refused file files name text refusal.Usage short e h = h
 given-refused file files name text (refusal.Missing n) short e (s, none) = cc
 given-refused file files name text (refusal.TooLong n) short e (s, long) = too_long (files name) text short e long
-given-refused file files name text (refusal.Unread n) short e h = h
+given-refused file files name text (refusal.Text n err) short e h = h
 given-refused file files name text refusal.NotBuilt short e h = h
 
 refused-one : (files : Files) (name : List ℕ) (r t : Refusal) → IsNotGiven (Some files) name r → IsNotGiven (Some files) name t → r ≡ t
@@ -90,13 +96,13 @@ refused-one files name (refusal.Missing m) (refusal.TooLong n) (s, p) (u, q) = a
 refused-one files name (refusal.TooLong m) (refusal.Missing n) (s, p) (u, q) = absurd (no_file _ (files name) q p)
 refused-one files name (refusal.TooLong m) (refusal.TooLong n) (s, p) (u, q) = cc
 refused-one files name refusal.Usage t p q = absurd p
-refused-one files name (refusal.Unread m) t p q = absurd p
+refused-one files name (refusal.Text m err) t p q = absurd p
 refused-one files name refusal.NotBuilt t p q = absurd p
 refused-one files name (refusal.Missing m) refusal.Usage p q = absurd q
-refused-one files name (refusal.Missing m) (refusal.Unread n) p q = absurd q
+refused-one files name (refusal.Missing m) (refusal.Text n err) p q = absurd q
 refused-one files name (refusal.Missing m) refusal.NotBuilt p q = absurd q
 refused-one files name (refusal.TooLong m) refusal.Usage p q = absurd q
-refused-one files name (refusal.TooLong m) (refusal.Unread n) p q = absurd q
+refused-one files name (refusal.TooLong m) (refusal.Text n err) p q = absurd q
 refused-one files name (refusal.TooLong m) refusal.NotBuilt p q = absurd q
 
 fetches-one : (files : Files) (name : List ℕ) → IsOne (Fetches (Some files) name)
@@ -111,24 +117,27 @@ fetches-one files name (Err (stop.Refused r)) (Err stop.OutOfMemory) f g p q = a
 fetches-one files name (Err stop.ReadFault) y f g p q = absurd f
 fetches-one files name (Err stop.OutOfMemory) y f g p q = absurd f
 
--- a text spells one tree
-abbrev OneTree : {T : Type 0} → (List ℕ → T → Type 0) → Type 0
-OneTree {T} Spells = (text : List ℕ) (s t : T) → Spells text s → Spells text t → s ≡ t
+-- a text spells one tree of the form, or it is refused for one cause, and never both
+pub record OneAnswer {T : Type 0} (form : G T) : Type 0 where
+  pub one : (text : List ℕ) (x y : T) → IsTextOf form text x → IsTextOf form text y → x ≡ y
+  pub tree : (text : List ℕ) (x : T) (err : SyntaxErr) → IsTextOf form text x → ¬ (IsRefusedAs form text err)
+  pub refusal : (text : List ℕ) (err other : SyntaxErr) → IsRefusedAs form text err → IsRefusedAs form text other → err ≡ other
 
-reads-one : {T : Type 0} (Spells : List ℕ → T → Type 0) → OneTree Spells → (name text : List ℕ) → IsOne (Reads Spells name text)
-reads-one Spells one name text (Ok a) (Ok b) f g p q = ap (λ z. Ok z) (one text a b p q)
-reads-one Spells one name text (Ok a) (Err (stop.Refused r)) f g p (s, none) = absurd (none a p)
-reads-one Spells one name text (Ok a) (Err stop.ReadFault) f g p q = absurd g
-reads-one Spells one name text (Ok a) (Err stop.OutOfMemory) f g p q = absurd g
-reads-one Spells one name text (Err (stop.Refused r)) (Ok b) f g (s, none) q = absurd (none b q)
-reads-one Spells one name text (Err (stop.Refused r)) (Err (stop.Refused t)) f g (s, none) (u, nothing) = cc
-reads-one Spells one name text (Err (stop.Refused r)) (Err stop.ReadFault) f g p q = absurd g
-reads-one Spells one name text (Err (stop.Refused r)) (Err stop.OutOfMemory) f g p q = absurd g
-reads-one Spells one name text (Err stop.ReadFault) y f g p q = absurd f
-reads-one Spells one name text (Err stop.OutOfMemory) y f g p q = absurd f
+reads-one : {T : Type 0} (form : G T) → OneAnswer form → (name text : List ℕ) → IsOne (Reads form name text)
+reads-one form one name text (Ok a) (Ok b) f g p q = ap (λ z. Ok z) (one.one text a b p q)
+reads-one form one name text (Ok a) (Err (stop.Refused r)) f g p (err, is, has) = absurd (one.tree text a err p has)
+reads-one form one name text (Ok a) (Err stop.ReadFault) f g p q = absurd g
+reads-one form one name text (Ok a) (Err stop.OutOfMemory) f g p q = absurd g
+reads-one form one name text (Err (stop.Refused r)) (Ok b) f g (err, is, has) q = absurd (one.tree text b err q has)
+reads-one form one name text (Err (stop.Refused r)) (Err (stop.Refused t)) f g (err, is, has) (other, same, had) =
+    ap (λ z. Err (stop.Refused z)) (is ∙ ap (refusal.Text name) (one.refusal text err other has had) ∙ sym same)
+reads-one form one name text (Err (stop.Refused r)) (Err stop.ReadFault) f g p q = absurd g
+reads-one form one name text (Err (stop.Refused r)) (Err stop.OutOfMemory) f g p q = absurd g
+reads-one form one name text (Err stop.ReadFault) y f g p q = absurd f
+reads-one form one name text (Err stop.OutOfMemory) y f g p q = absurd f
 
-loads-one : {T : Type 0} (Spells : List ℕ → T → Type 0) → OneTree Spells → (files : Files) (name : List ℕ) → IsOne (Loads Spells (Some files) name)
-loads-one {T} Spells one files name = then-one (λ (z : Result T Stop). z) (Fetches (Some files) name) (Reads Spells name) (fetches-one files name) (reads-one Spells one name)
+loads-one : {T : Type 0} (form : G T) → OneAnswer form → (files : Files) (name : List ℕ) → IsOne (Loads form (Some files) name)
+loads-one {T} form one files name = then-one (λ (z : Result T Stop). z) (Fetches (Some files) name) (Reads form name) (fetches-one files name) (reads-one form one name)
 
 -- the status of an end
 abbrev end_status : Result Checked Stop → Option Status
@@ -138,35 +147,39 @@ end_status (Err stop.ReadFault) = None
 end_status (Err stop.OutOfMemory) = None
 
 -- No script has both outcomes.
-accepted-leak : (s : Spec) (script : Script) (n : ℕ) (l : Leak) → IsOutcome s script (outcome.Accepted n) → IsOutcome s script (outcome.Leak l) → ⊥
+accepted-leak : (s : ast_spec.Spec) (script : ast_script.Script) (n : ℕ) (l : Leak) → IsOutcome s script (outcome.Accepted n) → IsOutcome s script (outcome.Leak l) → ⊥
 accepted-leak s script n l (secure, count) (first, gain) = secure _ _ _ _ _ _ gain
 
-outcomes-one : (s : Spec) (script : Script) (a b : Outcome) → IsOutcome s script a → IsOutcome s script b → outcome_status a ≡ outcome_status b
+outcomes-one : (s : ast_spec.Spec) (script : ast_script.Script) (a b : Outcome) → IsOutcome s script a → IsOutcome s script b → outcome_status a ≡ outcome_status b
 outcomes-one s script (outcome.Accepted m) (outcome.Accepted n) p q = refl
 outcomes-one s script (outcome.Accepted m) (outcome.Leak l) p q = absurd (accepted-leak s script m l p q)
 outcomes-one s script (outcome.Leak l) (outcome.Accepted m) p q = absurd (accepted-leak s script m l q p)
 outcomes-one s script (outcome.Leak l) (outcome.Leak k) p q = refl
 
 checks-one : (s : Spec) (script : Script) → IsOneBy end_status (Checks s script)
-checks-one s script (Ok a) (Ok b) f g (d, small, on, p) (e, small', on', q) = ap (λ z. Some z) (outcomes-one s script a.outcome b.outcome p q)
-checks-one s script (Ok a) (Err (stop.Refused r)) f g (d, small, on, p) (e, not_small) = absurd (not_small small on)
+checks-one s script (Ok a) (Ok b) f g (t, small, p) (u, other, q) =
+    let spec : b.spec ≡ a.spec = let two = other.spec_is in let one = small.spec_is in cc in
+    let same : u ≡ t = let two = other.script_is in let one = small.script_is in cc in
+    let moved = subst (λ (z : ast_script.Script). IsOutcome a.spec z b.outcome) same (subst (λ (z : ast_spec.Spec). IsOutcome z u b.outcome) spec q) in
+    ap (λ z. Some z) (outcomes-one a.spec t a.outcome b.outcome p moved)
+checks-one s script (Ok a) (Err (stop.Refused r)) f g (t, small, p) (e, not_small) = absurd (not_small a.spec t small)
 checks-one s script (Ok a) (Err stop.ReadFault) f g p q = absurd g
 checks-one s script (Ok a) (Err stop.OutOfMemory) f g p q = absurd g
-checks-one s script (Err (stop.Refused r)) (Ok b) f g (e, not_small) (d, small, on, p) = absurd (not_small small on)
+checks-one s script (Err (stop.Refused r)) (Ok b) f g (e, not_small) (t, small, p) = absurd (not_small b.spec t small)
 checks-one s script (Err (stop.Refused r)) (Err (stop.Refused t)) f g (d, p) (e, q) = cc
 checks-one s script (Err (stop.Refused r)) (Err stop.ReadFault) f g p q = absurd g
 checks-one s script (Err (stop.Refused r)) (Err stop.OutOfMemory) f g p q = absurd g
 checks-one s script (Err stop.ReadFault) y f g p q = absurd f
 checks-one s script (Err stop.OutOfMemory) y f g p q = absurd f
 
-runs-one : OneTree IsSpecText → OneTree IsScriptText → (files : Files) (words : List (List ℕ)) → IsOneBy end_status (Runs (Some files) words)
+runs-one : OneAnswer spec_form → OneAnswer script_form → (files : Files) (words : List (List ℕ)) → IsOneBy end_status (Runs (Some files) words)
 runs-one specs scripts files words =
     then-one end_status (Commands words) (ChecksFiles (Some files)) (commands-one words)
-    (λ names. then-one end_status (Loads IsSpecText (Some files) names.spec) (λ s. Then (Loads IsScriptText (Some files) names.script) (Checks s))
-    (loads-one IsSpecText specs files names.spec)
-    (λ s. then-one end_status (Loads IsScriptText (Some files) names.script) (Checks s) (loads-one IsScriptText scripts files names.script) (checks-one s)))
+    (λ names. then-one end_status (Loads spec_form (Some files) names.spec) (λ s. Then (Loads script_form (Some files) names.script) (Checks s))
+    (loads-one spec_form specs files names.spec)
+    (λ s. then-one end_status (Loads script_form (Some files) names.script) (Checks s) (loads-one script_form scripts files names.script) (checks-one s)))
 
-pub one-status : OneTree IsSpecText → OneTree IsScriptText → (files : Files) (words : List (List ℕ)) (a b : Answer) → IsAnswer (Some files) words a → IsAnswer (Some files) words b → status_of a ≡ status_of b
+pub one-status : OneAnswer spec_form → OneAnswer script_form → (files : Files) (words : List (List ℕ)) (a b : Answer) → IsAnswer (Some files) words a → IsAnswer (Some files) words b → status_of a ≡ status_of b
 one-status specs scripts files words (answer.Checked a) (answer.Checked b) p q = cc (runs-one specs scripts files words (Ok a) (Ok b) tt tt p q)
 one-status specs scripts files words (answer.Checked a) (answer.Refused r) p q = cc (runs-one specs scripts files words (Ok a) (Err (stop.Refused r)) tt tt p q)
 one-status specs scripts files words (answer.Refused r) (answer.Checked b) p q = cc (runs-one specs scripts files words (Err (stop.Refused r)) (Ok b) tt tt p q)

@@ -1,9 +1,13 @@
 -- What comes of a file: it is fetched, and then it is read.
 use Rattle.std.specs.Prelude.{◌≡◌, ◌<◌, ◌≤◌, ℕ, List, length, ⊤, Option, Some, None, IfSome, IsSomeAnd, Ok, Err}
 use Rattle.sc_flow.specs.Files.{Files}
+use Rattle.sc_tree.specs.ExprGrammar.{G}
+use Rattle.sc_tree.specs.Texts.{IsTextOf}
+use Rattle.sc_texts.specs.Refused.{IsRefusedAs}
+use Rattle.sc_texts.specs.declared.syntax_err.SyntaxErr.{SyntaxErr}
 use Rattle.sc_run.specs.declared.limits.TheConstants.{MOST_FILE_BYTES}
 use Rattle.sc_run.specs.declared.refusal.Refusal.{Refusal}
-use Rattle.sc_run.specs.declared.refusal.Refusal.TheVariants.{Usage, Missing, TooLong, Unread, NotBuilt}
+use Rattle.sc_run.specs.declared.refusal.Refusal.TheVariants.{Usage, Missing, TooLong, Text, NotBuilt}
 use Rattle.sc_run.specs.declared.stop.Stop.TheVariants.{Refused, ReadFault, OutOfMemory}
 use Rattle.sc_run.specs.Stages.{Stage, Then, Judges}
 
@@ -12,7 +16,7 @@ abbrev pub IsNotGiven : Option Files → List ℕ → Refusal → Type 0
 IsNotGiven told name (Missing n) = (n ≡ name) × IfSome told (λ files. files name ≡ None)
 IsNotGiven told name (TooLong n) = (n ≡ name) × IfSome told (λ files. IsSomeAnd (files name) (λ text. MOST_FILE_BYTES < length text))
 IsNotGiven told name Usage = ⊥
-IsNotGiven told name (Unread n) = ⊥
+IsNotGiven told name (Text n err) = ⊥
 IsNotGiven told name NotBuilt = ⊥
 
 -- The shelf gives the file of that name. Where it tells its files, it is that file.
@@ -22,10 +26,11 @@ Fetches told name (Err (Refused refusal)) = IsNotGiven told name refusal
 Fetches told name (Err ReadFault) = ⊤
 Fetches told name (Err OutOfMemory) = ⊤
 
--- The text is read as the tree that it spells; it is refused where it spells none.
-abbrev pub Reads : {T : Type 0} → (List ℕ → T → Type 0) → List ℕ → List ℕ → Stage T
-Reads {T} Spells name text = Judges (λ refusal. (refusal ≡ Unread name) × ((x : T) → ¬ (Spells text x))) (Spells text)
+-- The text is read as the tree of the form that it spells; or it is refused for the cause that it has.
+abbrev pub Reads : {T : Type 0} → G T → List ℕ → List ℕ → Stage T
+Reads form name text =
+    Judges (λ refusal. (err : SyntaxErr) × (refusal ≡ Text name err) × IsRefusedAs form text err) (IsTextOf form text)
 
 -- The file of that name is loaded.
-abbrev pub Loads : {T : Type 0} → (List ℕ → T → Type 0) → Option Files → List ℕ → Stage T
-Loads Spells told name = Then (Fetches told name) (Reads Spells name)
+abbrev pub Loads : {T : Type 0} → G T → Option Files → List ℕ → Stage T
+Loads form told name = Then (Fetches told name) (Reads form name)

@@ -11,6 +11,9 @@ use Rattle.sc_check.specs.declared.outcome.Right.TheVariants.{Read, Write}
 use Rattle.sc_check.specs.Access.{Target}
 use Rattle.sc_check.specs.Database.{Value, Flag, Num, Str, Record, Table, Database}
 use Rattle.sc_check.specs.Witness.{Witness}
+use Rattle.sc_texts.specs.declared.syntax_err.SyntaxErr.{SyntaxErr}
+use Rattle.sc_texts.specs.declared.syntax_err.SyntaxErr.TheVariants as err
+use Rattle.sc_texts.specs.declared.syntax_err.What.TheVariants as what
 
 -- ---- values and databases
 
@@ -58,9 +61,26 @@ missing_text name = concat (codes "missing " ∷ name ∷ codes "\n" ∷ [])
 abbrev pub too_long_text : List ℕ → List ℕ
 too_long_text name = concat (codes "too long " ∷ name ∷ codes "\n" ∷ [])
 
--- of a file that cannot be read yet
-abbrev pub unread_text : List ℕ → List ℕ
-unread_text name = concat (name ∷ codes ": not built\n" ∷ [])
+-- the cause for which the text of a file is refused, with its place
+abbrev pub cause_text : List ℕ → List ℕ → ℕ → List ℕ
+cause_text name cause place = concat (name ∷ codes ": " ∷ cause ∷ decimal place ∷ codes "\n" ∷ [])
+
+abbrev pub syntax_text : List ℕ → SyntaxErr → List ℕ
+syntax_text name (err.NotText at) = cause_text name (codes "not text at ") at
+syntax_text name (err.BadByte at) = cause_text name (codes "bad byte at ") at
+syntax_text name (err.BadNumber at) = cause_text name (codes "bad number at ") at
+syntax_text name (err.Unfinished at) = cause_text name (codes "unfinished at ") at
+syntax_text name (err.NotGrammar token) = cause_text name (codes "not grammar at token ") token
+syntax_text name (err.TooDeep at) = cause_text name (codes "too deep at ") at
+syntax_text name (err.TooManyTokens at) = cause_text name (codes "too many tokens at ") at
+syntax_text name (err.TooMany what.Statics at) = cause_text name (codes "too many statics at ") at
+syntax_text name (err.TooMany what.Models at) = cause_text name (codes "too many models at ") at
+syntax_text name (err.TooMany what.Fields at) = cause_text name (codes "too many fields at ") at
+syntax_text name (err.TooMany what.Commands at) = cause_text name (codes "too many commands at ") at
+syntax_text name (err.TooMany what.NameBytes at) = cause_text name (codes "too many name bytes at ") at
+syntax_text name (err.TooMany what.TextBytes at) = cause_text name (codes "too many text bytes at ") at
+-- no text is refused so
+syntax_text name err.OutOfMemory = concat (name ∷ codes ": out of memory\n" ∷ [])
 
 -- of two files that cannot be decided yet
 abbrev pub not_built_text : List ℕ

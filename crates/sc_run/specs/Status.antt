@@ -1,12 +1,13 @@
 -- The exit status of each end of a run.
 use Rattle.std.specs.Prelude.{ℕ}
 use Rattle.sc_run.specs.declared.status.Status.{Status}
-use Rattle.sc_run.specs.declared.status.Status.TheVariants.{Done, Usage, Missing, Leak, ReadFault, WriteFault, OutOfMemory, TooLong, NotBuilt}
+use Rattle.sc_run.specs.declared.status.Status.TheVariants.{Done, Usage, Missing, TextRefused, Leak, ReadFault, WriteFault, OutOfMemory, TooLong, NotBuilt}
 
 abbrev pub code_of : Status → ℕ
 code_of Done = 0
 code_of Usage = 2
 code_of Missing = 3
+code_of TextRefused = 4
 code_of Leak = 6
 code_of ReadFault = 10
 code_of WriteFault = 11

@@ -11,7 +11,7 @@ use sc_check::Outcome;
 /// What the check of a script against a specification found.
 #[derive(Debug, Drop)]
 pub struct Checked {
-    /// The specification.
+    /// The specification, as a small one.
     pub spec: Spec,
     /// The outcome of the check.
     pub outcome: Outcome,
@@ -35,7 +35,8 @@ impl Refusal {
             Refusal::Usage => Status::Usage,
             Refusal::Missing(_) => Status::Missing,
             Refusal::TooLong(_) => Status::TooLong,
-            Refusal::Unread(_) | Refusal::NotBuilt => Status::NotBuilt,
+            Refusal::Text(..) => Status::TextRefused,
+            Refusal::NotBuilt => Status::NotBuilt,
         }
     }
 }

@@ -12,21 +12,25 @@ use crate::load::load;
 use crate::refusal::Refusal;
 use crate::stop::Stop;
 use crate::words::{Names, command_of};
-use sc_ast::{Script, Spec, Txt};
+use sc_ast::Txt;
 use sc_check::{check_script, is_small_script, is_small_spec};
 use sc_flow::Shelf;
+use sc_small::Small;
+use sc_tree::{Script, Spec};
 use std::alloc::Global;
 
-/// Checks the script against the specification, where both can be decided.
-fn check_trees(alloc: Global, spec: Spec, script: &Script) -> Result<Checked, Stop>
-    requires statics { length spec.statics ≤ most_statics }
+/// Checks the script against the specification, where the two are a small pair.
+fn check_trees(alloc: Global, spec: &Spec, script: &Script) -> Result<Checked, Stop>
+    requires statics { length spec.now.statics ≤ most_statics }
     requires commands { length script.now.commands ≤ most_commands }
-    ensures { Checks spec script.now result }
+    ensures { Checks spec.now script.now result }
 {
-    if !is_small_spec(&spec) || !is_small_script(&spec, script) {
+    let spec = spec.small(alloc)?;
+    let script = script.small(alloc)?;
+    if !is_small_spec(&spec) || !is_small_script(&spec, &script) {
         return Err(Stop::Refused(Refusal::NotBuilt));
     }
-    let outcome = check_script(alloc, &spec, script)?;
+    let outcome = check_script(alloc, &spec, &script)?;
     Ok(Checked { spec, outcome })
 }
 
@@ -38,7 +42,7 @@ fn check_files<F: Shelf>(alloc: Global, shelf: &mut F, names: Names<'_>) -> Resu
 {
     let spec: Spec = load(alloc, shelf, names.spec)?;
     let script: Script = load(alloc, shelf, names.script)?;
-    check_trees(alloc, spec, &script)
+    check_trees(alloc, &spec, &script)
 }
 
 /// What the words come to.

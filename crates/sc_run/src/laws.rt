@@ -11,7 +11,7 @@ use crate::program::run;
 use crate::status::Status;
 use sc_ast::Txt;
 use sc_flow::{SureShelf, SureSink};
-use sc_parser::one_tree;
+use sc_texts::{one_script_text, one_spec_text};
 use std::alloc::Global;
 
 /// Words have answers of one status on any files, so each status comes exactly where an answer of
@@ -21,7 +21,8 @@ pub fn one_status()
         IsAnswer (Some files) words answer → IsAnswer (Some files) words other →
         status_of answer ≡ status_of other }
 {
-    one_tree();
+    one_spec_text();
+    one_script_text();
 }
 
 /// Runs the program over objects that never fail. No fault is answered, so only for want of memory

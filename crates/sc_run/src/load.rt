@@ -1,34 +1,38 @@
 //! The files that the words name, as trees.
 
-ghost use Rattle.std.specs.Prelude.{◌≡◌, ◌<◌, ◌≤◌, ◌^◌, ℕ, List, IfOk, IsErrOf, MatchResult, Err};
-ghost use Rattle.std.specs.Prelude.{Ok, length};
-ghost use Rattle.sc_parser.specs.Texts.{IsSpecText, IsScriptText};
+ghost use Rattle.std.specs.Prelude.{◌≡◌, ◌≢◌, ◌<◌, ◌≤◌, ◌^◌, IfErr, IfOk, MatchResult, Err, Ok};
+ghost use Rattle.std.specs.Prelude.{length};
 ghost use Rattle.sc_flow.specs.Outside.{IsRead};
+ghost use Rattle.sc_tree.specs.ExprGrammar.{G};
+ghost use Rattle.sc_tree.specs.Grammar.{spec_form, script_form};
+ghost use Rattle.sc_tree.specs.Texts.{IsTextOf};
+ghost use Rattle.sc_texts.specs.Refused.{IsRefusedAs};
 ghost use Rattle.sc_run.specs.Loads.{Fetches, Loads, Reads};
 
 use crate::limits::MOST_FILE_BYTES;
 use crate::refusal::Refusal;
 use crate::stop::Stop;
-use sc_ast::{Script, Spec, Txt};
+use sc_ast::Txt;
 use sc_flow::{Found, Shelf, ShelfErr};
-use sc_parser::{SyntaxErr, parse_script, parse_spec};
+use sc_texts::{SyntaxErr, parse_script, parse_spec};
+use sc_tree::{Script, Spec};
 use std::alloc::Global;
 
 /// What the text of a file may spell.
 pub trait Tree: Sized {
-    // The text spells the tree.
-    ghost spells: { List ℕ → Self → Type 0 };
+    // What the grammar has for it.
+    ghost form: { G Self };
 
-    /// The tree that the text spells.
+    /// The tree that the text spells, or why it spells none, and where.
     fn parse(alloc: Global, text: &[u8]) -> Result<Self, SyntaxErr>
         requires { length text.now < 2 ^ 32 }
-        ensures ok { IfOk result (λ tree. spells text.now tree) }
-        ensures not_built { IsErrOf result SyntaxErr.NotBuilt → (tree : Self) →
-            ¬ (spells text.now tree) };
+        ensures ok { IfOk result (λ tree. IsTextOf form text.now tree) }
+        ensures refused { IfErr result (λ err. err ≢ SyntaxErr.OutOfMemory →
+            IsRefusedAs form text.now err) };
 }
 
 impl Tree for Spec {
-    ghost spells = { IsSpecText };
+    ghost form = { spec_form };
 
     fn parse(alloc: Global, text: &[u8]) -> Result<Spec, SyntaxErr> {
         parse_spec(alloc, text)
@@ -36,7 +40,7 @@ impl Tree for Spec {
 }
 
 impl Tree for Script {
-    ghost spells = { IsScriptText };
+    ghost form = { script_form };
 
     fn parse(alloc: Global, text: &[u8]) -> Result<Script, SyntaxErr> {
         parse_script(alloc, text)
@@ -62,18 +66,18 @@ fn fetch<F: Shelf>(alloc: Global, shelf: &mut F, name: &Txt) -> Result<Vec<u8>, 
 /// The tree that the text of the file of that name spells.
 fn read<T: Tree>(alloc: Global, name: &Txt, text: &[u8]) -> Result<T, Stop>
     requires { length text.now ≤ MOST_FILE_BYTES }
-    ensures { Reads T.spells name.now text.now result }
+    ensures { Reads T.form name.now text.now result }
 {
     match T::parse(alloc, text) {
         Ok(tree) => Ok(tree),
-        Err(SyntaxErr::NotBuilt) => Err(Stop::Refused(Refusal::Unread(name.copy(alloc)?))),
         Err(SyntaxErr::OutOfMemory) => Err(Stop::OutOfMemory),
+        Err(err) => Err(Stop::Refused(Refusal::Text(name.copy(alloc)?, err))),
     }
 }
 
 /// The tree in the file of that name.
 pub fn load<T: Tree, F: Shelf>(alloc: Global, shelf: &mut F, name: &Txt) -> Result<T, Stop>
-    ensures loaded { Loads T.spells (F.told shelf.old) name.now result }
+    ensures loaded { Loads T.form (F.told shelf.old) name.now result }
     ensures shelf { IsRead F.told F.faults shelf.old shelf.new (result ≡ Err Stop.ReadFault) }
 {
     let text = fetch(alloc, shelf, name)?;

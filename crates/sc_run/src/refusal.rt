@@ -1,6 +1,7 @@
 //! Why the words are refused.
 
 use sc_ast::Txt;
+use sc_texts::SyntaxErr;
 use thiserror::Error;
 
 /// Why the words get no outcome, with the name of the file where it is about one.
@@ -15,9 +16,9 @@ pub enum Refusal {
     /// The file is above the limit.
     #[error("a file is too long")]
     TooLong(Txt),
-    /// The text of the file spells nothing that can be read by what is built.
-    #[error("a file cannot be read yet")]
-    Unread(Txt),
+    /// The text of the file spells no tree of the language, for this cause.
+    #[error("a file is refused: {1}")]
+    Text(Txt, SyntaxErr),
     /// The two files cannot be decided by what is built.
     #[error("the files cannot be decided yet")]
     NotBuilt,

@@ -15,6 +15,8 @@ pub enum Status {
     Usage = 2,
     /// There is no file of a name.
     Missing = 3,
+    /// A file spells no tree of the language.
+    TextRefused = 4,
     /// A command gains somebody a right; the witness is printed.
     Leak = 6,
     /// The shelf met a fault.
@@ -25,7 +27,7 @@ pub enum Status {
     OutOfMemory = 13,
     /// A file is above the limit.
     TooLong = 14,
-    /// A file cannot be read, or the two cannot be decided, by what is built.
+    /// Both files are read, and cannot be decided by what is built.
     NotBuilt = 15,
 }
 

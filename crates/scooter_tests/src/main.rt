@@ -12,11 +12,12 @@ use std::alloc::{AllocError, Global};
 use std::io;
 
 /// The words of the commands, in the order in which README.md shows them.
-const COMMANDS: [&[&str]; 6] = [
+const COMMANDS: [&[&str]; 7] = [
     &["check", "notes.spec", "robots.scm"],
     &["check", "notes.spec", "readers.scm"],
     &["check", "clinic.spec", "billing.scm"],
     &["check", "clinic.spec", "billing-mended.scm"],
+    &["check", "clinic.spec", "slip.scm"],
     &["check", "clinic.spec", "unbuilt.scm"],
     &["check", "clinic.spec"],
 ];

@@ -10,6 +10,7 @@ mod faults;
 mod rows;
 mod sizes;
 mod surely;
+mod texts;
 
 /// A file in memory: its name and its text.
 #[derive(Clone, Copy)]

@@ -5,7 +5,7 @@ use sc_run::Status;
 use std::alloc::Global;
 use std::test::Fail;
 
-const FILES: [File<'static>; 5] = [
+const FILES: [File<'static>; 7] = [
     File {
         name: "n.spec",
         text: b"model Note {create: none, delete: none, body: Text {read: none, write: none}}",
@@ -19,8 +19,16 @@ const FILES: [File<'static>; 5] = [
         text: b"principal model User {create: none, delete: none}",
     },
     File {
+        name: "cut.spec",
+        text: b"model",
+    },
+    File {
         name: "s.scm",
         text: b"",
+    },
+    File {
+        name: "slip.scm",
+        text: b"AddStatic(A) =",
     },
     File {
         name: "u.scm",
@@ -49,7 +57,7 @@ fn ends_so(alloc: Global, row: &Row) -> Result<bool, Fail> {
 }
 
 /// Each refusal in its turn. What was not due yet is not fetched, and so meets no fault.
-const REFUSALS: [Row; 13] = [
+const REFUSALS: [Row; 15] = [
     Row {
         words: &[],
         fetches: &[0],
@@ -115,12 +123,20 @@ const REFUSALS: [Row; 13] = [
         fetched: 1,
     },
     Row {
-        words: &["check", "u.spec", "nowhere"],
+        words: &["check", "cut.spec", "nowhere"],
         fetches: &[1],
         puts: &[],
-        status: Status::NotBuilt,
-        output: b"u.spec: not built\n",
+        status: Status::TextRefused,
+        output: b"cut.spec: not grammar at token 1\n",
         fetched: 1,
+    },
+    Row {
+        words: &["check", "u.spec", "nowhere"],
+        fetches: &[],
+        puts: &[],
+        status: Status::Missing,
+        output: b"missing nowhere\n",
+        fetched: 2,
     },
     Row {
         words: &["check", "n.spec", "nowhere"],
@@ -139,11 +155,19 @@ const REFUSALS: [Row; 13] = [
         fetched: 2,
     },
     Row {
-        words: &["check", "twice.spec", "u.scm"],
+        words: &["check", "twice.spec", "slip.scm"],
+        fetches: &[],
+        puts: &[],
+        status: Status::TextRefused,
+        output: b"slip.scm: bad byte at 13\n",
+        fetched: 2,
+    },
+    Row {
+        words: &["check", "n.spec", "u.scm"],
         fetches: &[],
         puts: &[],
         status: Status::NotBuilt,
-        output: b"u.scm: not built\n",
+        output: b"not built\n",
         fetched: 2,
     },
     Row {

@@ -98,15 +98,10 @@ end
         ),
         (
             b"Note::UpdateFieldPolicy(body, {})",
-            Status::NotBuilt,
-            b"s.scm: not built\n",
+            Status::TextRefused,
+            b"s.scm: not grammar at token 7\n",
         ),
-        (
-            b"Note::RemoveField(body)",
-            Status::NotBuilt,
-            b"s.scm: not built\n",
-        ),
-        (b"\xff", Status::NotBuilt, b"s.scm: not built\n"),
+        (b"Note::RemoveField(body)", Status::NotBuilt, b"not built\n"),
     ];
     for (script, status, output) in rows {
         let ended = checked(rt.alloc(), NOTES, script)?;

@@ -1,7 +1,14 @@
 use Rattle.std.proofs.Common.{rules, ◌≡◌}
 use Rattle.std.specs.Prelude.{Err}
 use Rattle.sc_run.specs.Stages.{Stops, Goes}
+use Rattle.sc_run.proofs.Counts.{loaded_statics, loaded_commands}
 use Rattle.sc_run.proofs.check.check_files.Goals as goal
+
+pub check_trees-requires-clause-statics : goal.check_trees-requires-clause-statics
+check_trees-requires-clause-statics g c = loaded_statics _ _ _ c.in_ok-spec.ensures.loaded
+
+pub check_trees-requires-clause-commands : goal.check_trees-requires-clause-commands
+check_trees-requires-clause-commands g c = loaded_commands _ _ _ c.in_ok-script.ensures.loaded
 
 pub returns-in_err-spec-clause-checked : goal.returns-in_err-spec-clause-checked
 returns-in_err-spec-clause-checked g c =
