@@ -75,11 +75,15 @@ fn texts_that_are_read(rt: HostRuntime) -> Result<(), Fail> {
         b"User::AddField(big: Int {read: none, write: none}, u -> -9223372036854775808)".as_slice(),
         b"User::AddField(big: Int {read: none, write: none}, u -> 9223372036854775807)",
         b"AddStatic(A) RemoveStatic(A) AddPrincipal(User) DeleteModel(User)",
-        b"CreateModel(model Grant {create: none, delete: g -> [g.user], user: Id(User) {read: none, write: none},})",
+        b"CreateModel(model Grant {create: none, delete: g -> [g.user],
+            user: Id(User) {read: none, write: none},})",
         b"User::WeakenFieldPolicy(email, {write: public}, \"open \\x07 house\")",
-        b"User::UpdatePolicy({create: none, delete: u -> u.friends.map(x -> x.boss)}) User::WeakenPolicy({delete: public}, \"\")",
-        b"User::AddField(of: Set(Id(User)) {read: none, write: none}, u -> match u.boss with none -> [] | some b -> b.friends)",
-        b"User::AddField(same: Bool {read: none, write: none}, u -> !(u.age < -1) && u in {User::Find({age >= 17, tags has u})} || u in u.friends)",
+        b"User::UpdatePolicy({create: none, delete: u -> u.friends.map(x -> x.boss)})
+            User::WeakenPolicy({delete: public}, \"\")",
+        b"User::AddField(of: Set(Id(User)) {read: none, write: none},
+            u -> match u.boss with none -> [] | some b -> b.friends)",
+        b"User::AddField(same: Bool {read: none, write: none}, u -> !(u.age < -1)
+            && u in {User::Find({age >= 17, tags has u})} || u in u.friends)",
         b"User::RemoveField(email)",
     ];
     for script in scripts {
