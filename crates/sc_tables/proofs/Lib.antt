@@ -1,0 +1,10 @@
+pub mod Classes
+pub mod Closing
+pub mod MadeAtoms
+pub mod MadeStructure
+pub mod MadeValues
+pub mod Own
+pub mod Positions
+pub mod Sound
+pub mod Throughout
+pub mod Transfer

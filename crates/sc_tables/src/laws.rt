@@ -1,0 +1,66 @@
+//! What holds of the tables of any formula and any list of terms.
+
+ghost use Rattle.std.specs.Prelude.{◌↔◌, List, [], Contains};
+ghost use Rattle.sc_formula.specs.NormalForm.{IsNormal};
+ghost use Rattle.sc_formula.specs.Over.{IsOver};
+ghost use Rattle.sc_formula.specs.Trees.{Formula};
+ghost use Rattle.sc_formula.specs.declared.structure.Signature.{Signature};
+ghost use Rattle.sc_formula.specs.declared.structure.Structure.{Structure};
+ghost use Rattle.sc_terms.specs.GroundTerms.{GroundTerm, no_terms};
+ghost use Rattle.sc_terms.specs.Passing.{Choice, IsChoice, IsSatisfiableOver, PassesWith};
+ghost use Rattle.sc_terms.specs.Reading.{Agree, Reads};
+ghost use Rattle.sc_terms.specs.Satisfying.{SatisfiesWith, leading_elements};
+ghost use Rattle.sc_terms.specs.Structures.{IsStructure};
+ghost use Rattle.sc_terms.specs.Universe.{IsClosedSet};
+ghost use Rattle.sc_tables.specs.Consistent.{IsConsistent};
+ghost use Rattle.sc_tables.specs.Made.{made, made_choice, table_of};
+ghost use Rattle.sc_tables.specs.Table.{Table, holds, is_there};
+ghost use Rattle.sc_tables.specs.Vocabulary.{IsVocabulary, Vocabulary};
+
+/// A structure with a choice has a table, which is consistent, with which it agrees, and over which
+/// each formula is read that the structure passes.
+pub fn structure_has_table()
+    ensures consistent { (g : Signature) (f : Formula) (s : Structure) (c : Choice)
+        (terms : List GroundTerm) (v : Vocabulary) →
+        IsStructure g s → IsChoice g s f c → IsVocabulary g f terms v →
+        IsConsistent g v (table_of s c) }
+    ensures agrees { (g : Signature) (f : Formula) (s : Structure) (c : Choice)
+        (terms : List GroundTerm) (v : Vocabulary) →
+        IsStructure g s → IsChoice g s f c → IsVocabulary g f terms v →
+        Agree g f s c v.named (is_there (table_of s c)) (holds (table_of s c)) }
+    ensures reads { (g : Signature) (f : Formula) (s : Structure) (c : Choice)
+        (terms : List GroundTerm) (v : Vocabulary) →
+        IsOver g [] f → IsNormal f → IsStructure g s → IsVocabulary g f terms v →
+        PassesWith g f (Contains terms) s c →
+        Reads g (is_there (table_of s c)) (holds (table_of s c)) terms 0 [] no_terms f }
+{}
+
+/// A consistent table has a structure with a choice. It passes each formula that is read over the
+/// table; and it satisfies that formula if the terms are closed and the table names no more.
+pub fn table_has_structure()
+    ensures structure { (g : Signature) (f : Formula) (terms : List GroundTerm) (v : Vocabulary)
+        (table : Table) →
+        IsOver g [] f → IsVocabulary g f terms v → IsConsistent g v table →
+        IsStructure g (made g v table) }
+    ensures passes { (g : Signature) (f : Formula) (terms : List GroundTerm) (v : Vocabulary)
+        (table : Table) →
+        IsOver g [] f → IsNormal f → IsVocabulary g f terms v → IsConsistent g v table →
+        Reads g (is_there table) (holds table) terms 0 [] no_terms f →
+        PassesWith g f (Contains terms) (made g v table) (made_choice g v table) }
+    ensures satisfies { (g : Signature) (f : Formula) (terms : List GroundTerm) (v : Vocabulary)
+        (table : Table) →
+        IsOver g [] f → IsNormal f → IsVocabulary g f terms v → IsConsistent g v table →
+        Reads g (is_there table) (holds table) terms 0 [] no_terms f →
+        IsClosedSet g f (Contains terms) →
+        ((t : GroundTerm) → Contains v.named t → Contains terms t) →
+        SatisfiesWith g f (made g v table) (leading_elements (made_choice g v table) 0 f) }
+{}
+
+/// Some structure passes a formula over a list of terms exactly where the formula is read over them
+/// by some consistent table.
+pub fn tables_are_complete()
+    ensures { (g : Signature) (f : Formula) (terms : List GroundTerm) (v : Vocabulary) →
+        IsOver g [] f → IsNormal f → IsVocabulary g f terms v →
+        (IsSatisfiableOver g f (Contains terms) ↔ ((table : Table) × IsConsistent g v table
+        × Reads g (is_there table) (holds table) terms 0 [] no_terms f)) }
+{}

@@ -1,0 +1,8 @@
+//! Tables of what ground terms have, and the structures that they stand for.
+//!
+//! - `laws`: what holds of the tables of any formula and any list of terms.
+#![tactic(auto)]
+
+mod laws;
+
+pub use laws::{structure_has_table, table_has_structure, tables_are_complete};
