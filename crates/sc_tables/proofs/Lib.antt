@@ -1,8 +1,13 @@
+pub mod Assigned
+pub mod AtomFacts
 pub mod Classes
+pub mod Clausal
 pub mod Closing
+pub mod Lawful
 pub mod MadeAtoms
 pub mod MadeStructure
 pub mod MadeValues
+pub mod ClausesMet
 pub mod Own
 pub mod Positions
 pub mod Sound

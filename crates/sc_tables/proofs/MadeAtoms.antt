@@ -37,7 +37,7 @@ same_number i j k n there back =
       | inr p ↦ elim (eqb_tells k n) [ inl q ↦ absurd (p.1 (back q.1)) | inr q ↦ p.0 ∙ sym q.0 ]
     ]
 
-one_truth : (a b : Bool) → (a ≡ true → b ≡ true) → (b ≡ true → a ≡ true) → a ≡ b
+pub one_truth : (a b : Bool) → (a ≡ true → b ≡ true) → (b ≡ true → a ≡ true) → a ≡ b
 one_truth true b p q = sym (p refl)
 one_truth false true p q = q refl
 one_truth false false p q = refl

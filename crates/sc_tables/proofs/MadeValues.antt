@@ -279,6 +279,9 @@ module _ (g : Signature) (f : Formula) (terms : List GroundTerm) (v : Vocabulary
           (sym (at_there g f terms v table over words fits (constant sort) sort there refl) ∙ (fits.sorts.constants sort there ∙ ap not e)) in
           known (ap (λ o. Some (unwrap_or o 0)) here ∙ sym here) (some_size g f terms v table over words fits sort below' e)
 
+  at_one : (t u : GroundTerm) → t ≡ u → at t ≡ at u
+  at_one t u e = ap at e
+
   one_at : (number sort : ℕ) (us ts : GroundTerms) → table.value (skolem number sort us) ≡ table.value (skolem number sort ts)
       → at (skolem number sort us) ≡ at (skolem number sort ts)
   one_at number sort us ts value = ap (λ o. option_map (place g v table sort) (option_and_then element_of o)) value
@@ -317,7 +320,7 @@ module _ (g : Signature) (f : Formula) (terms : List GroundTerm) (v : Vocabulary
           let alike = all_one us ts above xs (subst Q arguments sorts') sorts each' each us-at p in
           let value = fits.variables.same number sort us ts (subst R same other) there alike in
           let found-here : at u ≡ at (skolem number sort ts) =
-          ap at u-is ∙ (ap (λ s. at (skolem number s us)) same ∙ one_at number sort us ts value) in
+          at_one u (skolem number s us) u-is ∙ (ap (λ s. at (skolem number s us)) same ∙ one_at number sort us ts value) in
           ap (option_and_then at) found ∙ found-here
 
   field_made : (h : ℕ) (t : GroundTerm) → Contains v.named (field h t) → IsElement t → IsElement (field h t)

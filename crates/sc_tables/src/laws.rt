@@ -1,9 +1,11 @@
 //! What holds of the tables of any formula and any list of terms.
 
-ghost use Rattle.std.specs.Prelude.{◌↔◌, List, [], Contains};
+ghost use Rattle.std.specs.Prelude.{◌≡◌, ◌↔◌, ◌==◌, ℕ, IsTrue, List, [], ◌++◌, Some, Contains};
+ghost use Rattle.std.specs.List.{list_all};
 ghost use Rattle.sc_formula.specs.NormalForm.{IsNormal};
 ghost use Rattle.sc_formula.specs.Over.{IsOver};
 ghost use Rattle.sc_formula.specs.Trees.{Formula};
+ghost use Rattle.sc_formula.specs.declared.structure.Range.TheVariants as Range;
 ghost use Rattle.sc_formula.specs.declared.structure.Signature.{Signature};
 ghost use Rattle.sc_formula.specs.declared.structure.Structure.{Structure};
 ghost use Rattle.sc_terms.specs.GroundTerms.{GroundTerm, no_terms};
@@ -12,10 +14,14 @@ ghost use Rattle.sc_terms.specs.Reading.{Agree, Reads};
 ghost use Rattle.sc_terms.specs.Satisfying.{SatisfiesWith, leading_elements};
 ghost use Rattle.sc_terms.specs.Structures.{IsStructure};
 ghost use Rattle.sc_terms.specs.Universe.{IsClosedSet};
-ghost use Rattle.sc_tables.specs.Consistent.{IsConsistent};
+ghost use Rattle.sc_tables.specs.Clauses.{IsTyped, base_clauses, congruence_clauses};
+ghost use Rattle.sc_tables.specs.Consistent.{IsConsistent, range_of};
+ghost use Rattle.sc_tables.specs.Facts.{Assignment, Fact, facts_at, ground, is_fact, is_met};
+ghost use Rattle.sc_tables.specs.Facts.{same, table_for, text};
 ghost use Rattle.sc_tables.specs.Made.{made, made_choice, table_of};
+ghost use Rattle.sc_tables.specs.Models.{IsLawful, Model, assignment_of};
 ghost use Rattle.sc_tables.specs.Table.{Table, holds, is_there};
-ghost use Rattle.sc_tables.specs.Vocabulary.{IsVocabulary, Vocabulary};
+ghost use Rattle.sc_tables.specs.Vocabulary.{IsVocabulary, Vocabulary, told};
 
 /// A structure with a choice has a table, which is consistent, with which it agrees, and over which
 /// each formula is read that the structure passes.
@@ -63,4 +69,46 @@ pub fn tables_are_complete()
         IsOver g [] f → IsNormal f → IsVocabulary g f terms v →
         (IsSatisfiableOver g f (Contains terms) ↔ ((table : Table) × IsConsistent g v table
         × Reads g (is_there table) (holds table) terms 0 [] no_terms f)) }
+{}
+
+/// An assignment meets the clauses exactly where the table that it stands for is consistent.
+pub fn clauses_are_consistency()
+    ensures { (g : Signature) (f : Formula) (terms : List GroundTerm) (v : Vocabulary)
+        (a : Assignment) →
+        IsVocabulary g f terms v → IsTyped g v a →
+        (IsTrue (list_all (is_met a) (base_clauses g v ++ congruence_clauses g v))
+        ↔ IsConsistent g v (table_for a)) }
+{}
+
+/// An atom holds in the table that an assignment stands for exactly where its facts are facts.
+pub fn atoms_are_facts()
+    ensures { (a : Assignment) (env : List GroundTerm) (atom : Formula) (facts : List Fact) →
+        facts_at env atom ≡ Some facts →
+        holds (table_for a) env atom ≡ list_all (is_fact a) facts }
+{}
+
+/// What decision procedures find stands for an assignment: each term has what its range asks, and
+/// elements and texts are the same where their classes are.
+pub fn models_are_assignments()
+    ensures typed { (g : Signature) (v : Vocabulary) (texts : List (List ℕ)) (spare : ℕ → List ℕ)
+        (m : Model) →
+        IsLawful g texts spare m v → IsTyped g v (assignment_of g texts spare m) }
+    ensures elements { (g : Signature) (v : Vocabulary) (texts : List (List ℕ))
+        (spare : ℕ → List ℕ) (m : Model) (t u : GroundTerm) (sort : ℕ) →
+        IsLawful g texts spare m v →
+        range_of g t ≡ Some (Range.Rec sort) → range_of g u ≡ Some (Range.Rec sort) →
+        is_fact (assignment_of g texts spare m) (same (ground t) (ground u))
+        ≡ (m.class t == m.class u) }
+    ensures texts { (g : Signature) (v : Vocabulary) (texts : List (List ℕ)) (spare : ℕ → List ℕ)
+        (m : Model) (t u : GroundTerm) →
+        IsLawful g texts spare m v → Contains (told v) t → Contains (told v) u →
+        range_of g t ≡ Some Range.Str → range_of g u ≡ Some Range.Str →
+        is_fact (assignment_of g texts spare m) (same (ground t) (ground u))
+        ≡ (m.class t == m.class u) }
+    ensures literals { (g : Signature) (v : Vocabulary) (texts : List (List ℕ))
+        (spare : ℕ → List ℕ) (m : Model) (t : GroundTerm) (w : List ℕ) →
+        IsLawful g texts spare m v → Contains (told v) t → Contains texts w →
+        range_of g t ≡ Some Range.Str →
+        is_fact (assignment_of g texts spare m) (same (ground t) (text w))
+        ≡ (m.class t == m.text_class w) }
 {}

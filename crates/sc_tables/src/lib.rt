@@ -5,4 +5,7 @@
 
 mod laws;
 
-pub use laws::{structure_has_table, table_has_structure, tables_are_complete};
+pub use laws::{
+    atoms_are_facts, clauses_are_consistency, models_are_assignments, structure_has_table,
+    table_has_structure, tables_are_complete,
+};
