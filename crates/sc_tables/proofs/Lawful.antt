@@ -20,7 +20,7 @@ use Rattle.sc_tables.specs.Vocabulary.{Vocabulary, told}
 use Rattle.sc_tables.specs.Consistent.{IsOfRange, range_of}
 use Rattle.sc_tables.specs.Facts.{Assignment, ground, text, same, is_fact}
 use Rattle.sc_tables.specs.Clauses.{IsTyped}
-use Rattle.sc_tables.specs.Models.{Model, IsLawful, text_for, value_for, assignment_of}
+use Rattle.sc_tables.specs.Models.{Model, IsLawful, IsSpare, IsWithoutText, text_for, value_for, assignment_of}
 use Rattle.sc_tables.proofs.Positions.{find-passes}
 use Rattle.sc_tables.proofs.Assigned.{equal_same, same_equal}
 
@@ -44,15 +44,23 @@ module _ (g : Signature) (texts : List (List ℕ)) (spare : ℕ → List ℕ) (m
 
   -- the text of a class is one of the formula's that has it, or the spare one
   abbrev IsTextFor : ℕ → List ℕ → Type 0
-  IsTextFor k w = (Contains texts w × (m.text_class w ≡ k)) ⊎ (w ≡ spare k)
+  IsTextFor k w = (Contains texts w × (m.text_class w ≡ k)) ⊎ (IsWithoutText g texts spare m k × (w ≡ spare k))
 
-  text_is : (k : ℕ) → IsTextFor k (written k)
-  text_is k = choose (find (λ t. m.text_class t == k) texts) refl
+  abbrev has_class : ℕ → List ℕ → Bool
+  has_class k t = m.text_class t == k
+
+  written_is : (k : ℕ) → IsTextFor k (written k)
+  written_is k = choose (find (has_class k) texts) refl
     where
-      choose : (o : Option (List ℕ)) → find (λ t. m.text_class t == k) texts ≡ o → IsTextFor k (unwrap_or o (spare k))
-      choose None e = inr refl
-      choose (Some w) e =
-          inl (find-Contains (λ t. m.text_class t == k) texts w e, eqb-true (m.text_class w) k (find-passes (λ t. m.text_class t == k) texts w e))
+      none : find (has_class k) texts ≡ None → IsWithoutText g texts spare m k
+      none e w c same' =
+          let test : has_class k w ≡ true = ap (λ n. n == k) same' ∙ nat_same k in
+          let (u, found, passes) = find-any (has_class k) texts (list_any-from (has_class k) texts w c test) in
+          let both : Some u ≡ None = sym found ∙ e in cc
+
+      choose : (o : Option (List ℕ)) → find (has_class k) texts ≡ o → IsTextFor k (unwrap_or o (spare k))
+      choose None e = inr (none e, refl)
+      choose (Some w) e = inl (find-Contains (has_class k) texts w e, eqb-true (m.text_class w) k (find-passes (has_class k) texts w e))
 
   -- a text of the formula is that of its class
   own_text : (w : List ℕ) → Contains texts w  → written (m.text_class w) ≡ w
@@ -66,29 +74,35 @@ module _ (g : Signature) (texts : List (List ℕ)) (spare : ℕ → List ℕ) (m
   IsTextTerm t = Contains (told v) t × (range_of g t ≡ Some kinds.Str)
 
   one_class : (t u : GroundTerm) → IsTextTerm t → IsTextTerm u → written (m.class t) ≡ written (m.class u) → m.class t ≡ m.class u
-  one_class t u (c, kind) (d, kind') e = choose (text_is (m.class t)) (text_is (m.class u))
+  one_class t u (c, kind) (d, kind') e = choose (written_is (m.class t)) (written_is (m.class u))
     where
       choose : IsTextFor (m.class t) (written (m.class t)) → IsTextFor (m.class u) (written (m.class u)) → m.class t ≡ m.class u
       choose (inl (p, q)) (inl (p', q')) = sym q ∙ (ap m.text_class e ∙ q')
-      choose (inl (p, q)) (inr q') =
-          let P : List ℕ → Type 0 = λ w. Contains texts w in absurd (lawful.spare_new u d kind' (subst P (e ∙ q') p))
-      choose (inr q) (inl (p', q')) =
-          let P : List ℕ → Type 0 = λ w. Contains texts w in absurd (lawful.spare_new t c kind (subst P (sym e ∙ q) p'))
-      choose (inr q) (inr q') = lawful.spares_apart t u c d kind kind' (sym q ∙ (e ∙ q'))
+      choose (inl (p, q)) (inr (free', q')) =
+          let P : List ℕ → Type 0 = λ w. Contains texts w in
+          absurd (lawful.spare_new u (record { told_there = d; ranged = kind'; without = free' }) (subst P (e ∙ q') p))
+      choose (inr (free, q)) (inl (p', q')) =
+          let P : List ℕ → Type 0 = λ w. Contains texts w in
+          absurd (lawful.spare_new t (record { told_there = c; ranged = kind; without = free }) (subst P (sym e ∙ q) p'))
+      choose (inr (free, q)) (inr (free', q')) =
+          lawful.spares_apart t u (record { told_there = c; ranged = kind; without = free }) (record { told_there = d; ranged = kind'; without = free' }) (sym q ∙ (e ∙ q'))
 
   one_text : (t : GroundTerm) (w : List ℕ) → IsTextTerm t → Contains texts w → written (m.class t) ≡ w → m.class t ≡ m.text_class w
-  one_text t w (c, kind) d e = choose (text_is (m.class t))
+  one_text t w (c, kind) d e = choose (written_is (m.class t))
     where
       choose : IsTextFor (m.class t) (written (m.class t)) → m.class t ≡ m.text_class w
       choose (inl (p, q)) = sym q ∙ ap m.text_class e
-      choose (inr q) = let P : List ℕ → Type 0 = λ w. Contains texts w in absurd (lawful.spare_new t c kind (subst P (sym e ∙ q) d))
+      choose (inr (free, q)) =
+          let P : List ℕ → Type 0 = λ w. Contains texts w in
+          absurd (lawful.spare_new t (record { told_there = c; ranged = kind; without = free }) (subst P (sym e ∙ q) d))
 
   text_fits : (t : GroundTerm) → IsTextTerm t → IsText (written (m.class t))
-  text_fits t (c, kind) = choose (text_is (m.class t))
+  text_fits t (c, kind) = choose (written_is (m.class t))
     where
       choose : IsTextFor (m.class t) (written (m.class t)) → IsText (written (m.class t))
       choose (inl (p, q)) = lawful.are_texts (written (m.class t)) p
-      choose (inr q) = let P : List ℕ → Type 0 = λ w. IsText w in subst P (sym q) (lawful.spare_text t c kind)
+      choose (inr (free, q)) =
+          let P : List ℕ → Type 0 = λ w. IsText w in subst P (sym q) (lawful.spare_text t (record { told_there = c; ranged = kind; without = free }))
 
   pub model_typed : IsTyped g v a
   model_typed t range c kind =

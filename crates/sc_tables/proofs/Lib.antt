@@ -1,4 +1,5 @@
 pub mod Assigned
+pub mod Assignments
 pub mod AtomFacts
 pub mod Classes
 pub mod Clausal

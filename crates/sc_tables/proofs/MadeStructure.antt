@@ -39,10 +39,10 @@ use Rattle.sc_tables.proofs.Sound.{told_function, is_some_value}
 use Rattle.sc_tables.proofs.Classes.{at_there, at_within, sort_below, size_made, size_within, place_within, default_within, some_size, some_not_empty}
 use Rattle.sc_tables.proofs.MadeValues.{found_at, made_row, made_at, variable_at, one_variable}
 
-zero_fits : FitsSigned w64 (pos 0)
+pub zero_fits : FitsSigned w64 (pos 0)
 zero_fits = fits_signed_from_abs w64 (pos 0) (omega arith)
 
-nothing_is_text : IsText []
+pub nothing_is_text : IsText []
 nothing_is_text = record { utf8 = IsUtf8-nil; short = omega arith }
 
 module _ (g : Signature) (f : Formula) (terms : List GroundTerm) (v : Vocabulary) (table : Table)

@@ -257,6 +257,14 @@ module _ (g : Signature) (f : Formula) (terms : List GroundTerm) (v : Vocabulary
   pub one_variable : (a b : Variable) → Contains (variables_of g f) a → Contains (variables_of g f) b → a.number ≡ b.number → a ≡ b
   one_variable a b p q e = marked_once (λ v. v.number) (variables_of g f) a b (variables_once g f) p q e
 
+  same_variable : (number m n : ℕ) (above above' : List ℕ) → Contains (variables_of g f) (record { number = number; sort = m; above = above })
+      → Contains (variables_of g f) (record { number = number; sort = n; above = above' }) → (m ≡ n) × (above ≡ above')
+  same_variable number m n above above' p q =
+      let first : Variable = record { number = number; sort = m; above = above } in
+      let second : Variable = record { number = number; sort = n; above = above' } in
+      let one : first ≡ second = one_variable first second p q refl in
+      (ap (λ v. v.sort) one, ap (λ v. v.above) one)
+
   abbrev IsElement : GroundTerm → Type 0
   IsElement t = element_named new choice t ≡ at t
 
@@ -310,11 +318,7 @@ module _ (g : Signature) (f : Formula) (terms : List GroundTerm) (v : Vocabulary
           let P : GroundTerm → Type 0 = λ u. Contains v.named u in
           let other : Contains v.named (skolem number s us) = subst P u-is listed in
           let (above', variable', sorts', each') = words.formed (skolem number s us) other in
-          let first : Variable = record { number = number; sort = s; above = above' } in
-          let second : Variable = record { number = number; sort = sort; above = above } in
-          let one : first ≡ second = one_variable first second variable' variable refl in
-          let same : s ≡ sort = ap (λ v. v.sort) one in
-          let arguments : above' ≡ above = ap (λ v. v.above) one in
+          let (same, arguments) = same_variable number s sort above' above variable' variable in
           let Q : List ℕ → Type 0 = λ sorts. HaveSorts g us sorts in
           let R : ℕ → Type 0 = λ s. Contains v.named (skolem number s us) in
           let alike = all_one us ts above xs (subst Q arguments sorts') sorts each' each us-at p in

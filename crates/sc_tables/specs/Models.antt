@@ -39,13 +39,22 @@ module _ (g : Signature) (texts : List (List ℕ)) (spare : ℕ → List ℕ) (m
   abbrev pub assignment_of : Assignment
   assignment_of = record { there = m.there; value = λ t. value_for (range_of g t) t; has = m.has; is_empty = m.is_empty }
 
-  -- numbers are of 64 bits; two texts of the formula are of two classes; and the spare texts of told terms are texts, none of which is
-  -- one of the formula's or another's
+  -- no text of the formula is of the class
+  abbrev pub IsWithoutText : ℕ → Type 0
+  IsWithoutText k = (t : List ℕ) → Contains texts t → m.text_class t ≡ k → ⊥
+
+  -- the text of a told term is a spare one
+  pub record IsSpare (v : Vocabulary) (t : GroundTerm) : Type 0 where
+    pub told_there : Contains (told v) t
+    pub ranged : range_of g t ≡ Some range.Str
+    pub without : IsWithoutText (m.class t)
+
+  -- numbers are of 64 bits; two texts of the formula are of two classes; and the spare texts are texts, none of which is one of the
+  -- formula's or that of another class
   pub record IsLawful (v : Vocabulary) : Type 0 where
     pub numbers : (t : GroundTerm) → Contains (told v) t → FitsSigned w64 (m.number t)
     pub texts_apart : (t u : List ℕ) → Contains texts t → Contains texts u → m.text_class t ≡ m.text_class u → t ≡ u
     pub are_texts : (t : List ℕ) → Contains texts t → IsText t
-    pub spare_text : (t : GroundTerm) → Contains (told v) t → range_of g t ≡ Some range.Str → IsText (spare (m.class t))
-    pub spare_new : (t : GroundTerm) → Contains (told v) t → range_of g t ≡ Some range.Str → Contains texts (spare (m.class t)) → ⊥
-    pub spares_apart : (t u : GroundTerm) → Contains (told v) t → Contains (told v) u → range_of g t ≡ Some range.Str → range_of g u ≡ Some range.Str
-        → spare (m.class t) ≡ spare (m.class u) → m.class t ≡ m.class u
+    pub spare_text : (t : GroundTerm) → IsSpare v t → IsText (spare (m.class t))
+    pub spare_new : (t : GroundTerm) → IsSpare v t → Contains texts (spare (m.class t)) → ⊥
+    pub spares_apart : (t u : GroundTerm) → IsSpare v t → IsSpare v u → spare (m.class t) ≡ spare (m.class u) → m.class t ≡ m.class u

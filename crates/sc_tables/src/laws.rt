@@ -80,6 +80,16 @@ pub fn clauses_are_consistency()
         ↔ IsConsistent g v (table_for a)) }
 {}
 
+/// Some structure passes a formula over a list of terms exactly where some assignment meets the
+/// clauses, and the formula is read over the terms by it.
+pub fn assignments_are_complete()
+    ensures { (g : Signature) (f : Formula) (terms : List GroundTerm) (v : Vocabulary) →
+        IsOver g [] f → IsNormal f → IsVocabulary g f terms v →
+        (IsSatisfiableOver g f (Contains terms) ↔ ((a : Assignment) × IsTyped g v a
+        × IsTrue (list_all (is_met a) (base_clauses g v ++ congruence_clauses g v))
+        × Reads g (is_there (table_for a)) (holds (table_for a)) terms 0 [] no_terms f)) }
+{}
+
 /// An atom holds in the table that an assignment stands for exactly where its facts are facts.
 pub fn atoms_are_facts()
     ensures { (a : Assignment) (env : List GroundTerm) (atom : Formula) (facts : List Fact) →
