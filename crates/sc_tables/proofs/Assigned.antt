@@ -1,9 +1,9 @@
 -- The facts of an assignment, and the table that it stands for.
-use Rattle.std.proofs.Common.{◌≡◌, ℕ, ℤ, Bool, true, false, ◌&&◌, refl, sym, ◌∙◌, List, [], ◌∷◌, ◌++◌, Some, None, Option, cond, ap, subst, rules, Contains}
-use Rattle.std.specs.Prelude.{nat_eq, is_some, option_and_then}
+use Rattle.std.proofs.Common.{◌≡◌, ℕ, ℤ, Bool, true, false, refl, sym, ◌∙◌, List, [], ◌∷◌, Some, None, cond, ap, rules, Contains}
+use Rattle.std.specs.Prelude.{nat_eq, is_some}
 use Rattle.std.specs.Ordering.{int_eq}
 use Rattle.std.specs.Cmp.Lexicographic.{pointwise}
-use Rattle.std.proofs.lemmas.Bool.{eqb-true, and_parts}
+use Rattle.std.proofs.lemmas.Bool.{eqb-true}
 use Rattle.std.proofs.lemmas.Bool.Decides.{Decides-int_eq}
 use Rattle.sc_formula.specs.declared.structure.Range.{Range}
 use Rattle.sc_formula.specs.declared.structure.Range.TheVariants as kinds
@@ -18,12 +18,12 @@ use Rattle.sc_terms.specs.Universe.{HaveSorts, HasEach}
 use Rattle.sc_terms.proofs.Lists.{cond_true, cond_false}
 use Rattle.sc_terms.proofs.Kept.{nat_same}
 use Rattle.std.proofs.lemmas.List.Elements.{Contains-append_left}
-use Rattle.sc_tables.specs.Vocabulary.{Vocabulary, IsVocabulary, told}
+use Rattle.sc_tables.specs.Vocabulary.{Vocabulary, IsVocabulary}
 use Rattle.sc_tables.specs.Table.{Table, is_there, IsSame, AreSame}
-use Rattle.sc_tables.specs.Consistent.{IsOfRange, range_of}
-use Rattle.sc_tables.specs.Facts.{Assignment, Fact, ground, same, table_for, is_fact}
+use Rattle.sc_tables.specs.Consistent.{IsOfRange}
+use Rattle.sc_tables.specs.Facts.{Assignment, table_for}
 use Rattle.sc_tables.specs.Clauses.{IsTyped, one_and_same, all_same}
-use Rattle.sc_tables.proofs.Classes.{sorted_range, of_range_class}
+use Rattle.sc_tables.proofs.Classes.{sorted_range}
 use Rattle.sc_tables.proofs.ClausesMet.{AreFacts, facts_append, append_facts}
 
 same_int : (m n : ℤ) → int_eq m n ≡ true → m ≡ n

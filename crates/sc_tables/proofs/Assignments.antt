@@ -1,5 +1,5 @@
 -- A consistent table is that of an assignment.
-use Rattle.std.proofs.Common.{◌≡◌, ℕ, false, refl, sym, ◌∙◌, List, [], ◌∷◌, ◌++◌, Some, None, Option, cond, ap, subst, Contains}
+use Rattle.std.proofs.Common.{◌≡◌, false, refl, sym, List, [], ◌++◌, Some, None, Option, cond, ap, subst, Contains}
 use Rattle.std.specs.Prelude.{IsTrue, is_some, pos, unwrap_or}
 use Rattle.std.specs.List.{list_all}
 use Rattle.std.proofs.Math.Path.{fun_ext}
@@ -14,13 +14,14 @@ use Rattle.sc_formula.specs.Trees.{Formula}
 use Rattle.sc_terms.specs.GroundTerms.{GroundTerm, no_terms}
 use Rattle.sc_terms.specs.Passing.{IsSatisfiableOver}
 use Rattle.sc_terms.specs.Reading.{Reads}
-use Rattle.sc_tables.specs.Vocabulary.{Vocabulary, IsVocabulary, told}
+use Rattle.sc_tables.specs.Vocabulary.{Vocabulary, IsVocabulary}
 use Rattle.sc_tables.specs.Table.{Table, holds, is_there}
 use Rattle.sc_tables.specs.Consistent.{IsConsistent, IsOfRange, range_of}
 use Rattle.sc_tables.specs.Facts.{Assignment, is_met, table_for}
 use Rattle.sc_tables.specs.Clauses.{IsTyped, base_clauses, congruence_clauses}
 use Rattle.sc_tables.proofs.ClausesMet.{append_met, each_met, met_append, met_each}
-use Rattle.sc_tables.proofs.Clausal.{base_met, congruence_met, consistent}
+use Rattle.sc_tables.proofs.Clausal.{consistent}
+use Rattle.sc_tables.proofs.ConsistentMet.{base_met, congruence_met}
 use Rattle.sc_tables.proofs.Closing.{readable, satisfiable}
 use Rattle.sc_tables.proofs.MadeStructure.{zero_fits, nothing_is_text}
 

@@ -1,13 +1,11 @@
 -- The elements that a consistent table names.
-use Rattle.std.proofs.Common.{◌≡◌, ℕ, zero, suc, ◌+◌, ◌<◌, ◌≤◌, inl, inr, Bool, true, false, not, refl, sym, ◌∙◌, List, [], ◌∷◌, Some, None, Option, length, cond, ap, subst, arith, slice_get, Contains, map}
+use Rattle.std.proofs.Common.{◌≡◌, ℕ, ◌<◌, inl, inr, Bool, true, false, refl, sym, ◌∙◌, List, [], Some, None, Option, length, ap, subst, arith, slice_get, Contains}
 use Rattle.std.specs.Prelude.{option_and_then, is_some, ◌==◌, max, unwrap_or}
-use Rattle.std.specs.List.{flat_map, range_with_len}
+use Rattle.std.specs.List.{flat_map}
 use Rattle.std.specs.Option.{option_map, option_to_list}
 use Rattle.std.proofs.lemmas.Bool.{eqb-true, cases_lt}
-use Rattle.std.proofs.lemmas.Bool.Decides.{eqb_tells}
 use Rattle.std.proofs.lemmas.List.{get_or_past}
 use Rattle.std.proofs.lemmas.List.FromFn.{get_or-map-range_with_len, length-map-range_with_len}
-use Rattle.std.proofs.lemmas.Option.{option_and_then_some}
 use Rattle.sc_formula.specs.declared.structure.Range.{Range}
 use Rattle.sc_formula.specs.declared.structure.Range.TheVariants as kinds
 use Rattle.sc_formula.specs.declared.structure.FunSig.{FunSig}
@@ -17,7 +15,7 @@ use Rattle.sc_formula.specs.declared.structure.SVal.TheVariants.{Rec, Flag, Num,
 use Rattle.sc_formula.specs.Over.{IsOver}
 use Rattle.sc_formula.specs.Trees.{Formula}
 use Rattle.sc_formula.specs.Truth.{element_of, size_of}
-use Rattle.sc_terms.specs.GroundTerms.{GroundTerm, GroundTerms, constant, skolem, field, sort_of, record_sort, is_number}
+use Rattle.sc_terms.specs.GroundTerms.{GroundTerm, constant, skolem, field, sort_of, record_sort, is_number}
 use Rattle.sc_terms.specs.Parts.{Variable, existential}
 use Rattle.std.proofs.lemmas.List.Elements.{Contains-append_left}
 use Rattle.sc_terms.proofs.Lists.{flat_map-Contains, cond_true, cond_false}

@@ -1,6 +1,6 @@
 -- Clauses that are met.
-use Rattle.std.proofs.Common.{◌≡◌, Bool, true, false, not, ◌||◌, refl, sym, ◌∙◌, List, [], ◌∷◌, ◌++◌, cond, subst, inl, inr, Contains}
-use Rattle.std.specs.List.{list_all, list_any, flat_map}
+use Rattle.std.proofs.Common.{◌≡◌, Bool, true, false, not, ◌||◌, refl, List, [], ◌∷◌, ◌++◌, cond, subst, inl, inr, Contains}
+use Rattle.std.specs.List.{list_all, flat_map}
 use Rattle.std.proofs.lemmas.Bool.{and_parts}
 use Rattle.sc_terms.proofs.Lists.{Contains-head, Contains-tail, Contains-cons_cases, Contains-none}
 use Rattle.sc_tables.specs.Facts.{Assignment, Fact, Literal, Clause, implied, is_fact, is_literal, is_met}

@@ -1,5 +1,5 @@
 -- A formula is read true over some consistent table just where some structure passes it.
-use Rattle.std.proofs.Common.{◌≡◌, ℕ, ◌<◌, inl, inr, Bool, refl, sym, ◌∙◌, List, [], ◌∷◌, ◌++◌, Some, None, Option, ap, Contains, map}
+use Rattle.std.proofs.Common.{◌≡◌, ℕ, refl, sym, ◌∙◌, List, [], ◌++◌, Some, None, Option, ap, Contains, map}
 use Rattle.std.specs.Prelude.{is_some}
 use Rattle.std.specs.List.{flat_map}
 use Rattle.std.proofs.lemmas.List.Elements.{Contains-append_left, Contains-append_right}
@@ -19,7 +19,7 @@ use Rattle.sc_terms.proofs.Lists.{flat_map-Contains}
 use Rattle.sc_terms.proofs.Listed.{to_filter, to_map}
 use Rattle.sc_terms.proofs.CutFacts.{is_the_number}
 use Rattle.sc_terms.proofs.Stages.{to_arguments}
-use Rattle.sc_terms.proofs.Readings.{IsBelow, read_passes, over_reads}
+use Rattle.sc_terms.proofs.Readings.{read_passes, over_reads}
 use Rattle.sc_tables.specs.Vocabulary.{Vocabulary, IsVocabulary}
 use Rattle.sc_tables.specs.Table.{Table, holds, is_there}
 use Rattle.sc_tables.specs.Consistent.{IsConsistent}

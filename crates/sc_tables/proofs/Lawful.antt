@@ -1,7 +1,6 @@
 -- The assignment of a lawful model.
-use Rattle.std.proofs.Common.{◌≡◌, ℕ, Bool, true, false, ◌⊎◌, inl, inr, refl, sym, ◌∙◌, List, [], ◌∷◌, Some, None, Option, cond, ap, subst, Contains}
-use Rattle.std.specs.Prelude.{nat_eq, unwrap_or, ◌==◌}
-use Rattle.std.specs.Cmp.Lexicographic.{pointwise}
+use Rattle.std.proofs.Common.{◌≡◌, ℕ, Bool, true, false, ◌⊎◌, inl, inr, refl, sym, ◌∙◌, List, Some, None, Option, ap, subst, Contains}
+use Rattle.std.specs.Prelude.{unwrap_or, ◌==◌}
 use Rattle.std.specs.List.{find}
 use Rattle.std.proofs.lemmas.Bool.{eqb-true}
 use Rattle.std.proofs.lemmas.Bool.Decides.{eqb_tells}
@@ -10,7 +9,7 @@ use Rattle.sc_formula.specs.declared.structure.Range.{Range}
 use Rattle.sc_formula.specs.declared.structure.Range.TheVariants as kinds
 use Rattle.sc_formula.specs.declared.structure.Signature.{Signature}
 use Rattle.sc_formula.specs.declared.structure.SVal.{SVal}
-use Rattle.sc_formula.specs.declared.structure.SVal.TheVariants.{Rec, Flag, Num, Str}
+use Rattle.sc_formula.specs.declared.structure.SVal.TheVariants.{Str}
 use Rattle.sc_formula.specs.Truth.{are_equal}
 use Rattle.sc_terms.specs.GroundTerms.{GroundTerm}
 use Rattle.sc_terms.proofs.Lists.{find-Contains}
@@ -20,7 +19,7 @@ use Rattle.sc_tables.specs.Vocabulary.{Vocabulary, told}
 use Rattle.sc_tables.specs.Consistent.{IsOfRange, range_of}
 use Rattle.sc_tables.specs.Facts.{Assignment, ground, text, same, is_fact}
 use Rattle.sc_tables.specs.Clauses.{IsTyped}
-use Rattle.sc_tables.specs.Models.{Model, IsLawful, IsSpare, IsWithoutText, text_for, value_for, assignment_of}
+use Rattle.sc_tables.specs.Models.{Model, IsLawful, IsWithoutText, text_for, value_for, assignment_of}
 use Rattle.sc_tables.proofs.Positions.{find-passes}
 use Rattle.sc_tables.proofs.Assigned.{equal_same, same_equal}
 
@@ -63,7 +62,7 @@ module _ (g : Signature) (texts : List (List ℕ)) (spare : ℕ → List ℕ) (m
       choose (Some w) e = inl (find-Contains (has_class k) texts w e, eqb-true (m.text_class w) k (find-passes (has_class k) texts w e))
 
   -- a text of the formula is that of its class
-  own_text : (w : List ℕ) → Contains texts w  → written (m.text_class w) ≡ w
+  own_text : (w : List ℕ) → Contains texts w → written (m.text_class w) ≡ w
   own_text w c =
       let (u, found, passes) = find-any (λ t. m.text_class t == m.text_class w) texts
       (list_any-from (λ t. m.text_class t == m.text_class w) texts w c (nat_same (m.text_class w))) in

@@ -4,6 +4,7 @@ pub mod AtomFacts
 pub mod Classes
 pub mod Clausal
 pub mod Closing
+pub mod ConsistentMet
 pub mod Lawful
 pub mod MadeAtoms
 pub mod MadeStructure

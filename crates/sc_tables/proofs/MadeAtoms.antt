@@ -1,5 +1,5 @@
 -- Atoms hold in a consistent table where they hold in the table of its structure.
-use Rattle.std.proofs.Common.{◌≡◌, ℕ, zero, suc, ◌+◌, ◌<◌, ◌⊎◌, inl, inr, Bool, true, false, ◌&&◌, refl, sym, ◌∙◌, List, [], ◌∷◌, Some, None, Option, length, cond, ap, subst, arith, slice_get, Contains, map}
+use Rattle.std.proofs.Common.{◌≡◌, ℕ, zero, suc, ◌+◌, ◌⊎◌, inl, inr, Bool, true, false, ◌&&◌, refl, sym, ◌∙◌, List, [], ◌∷◌, Some, None, Option, ap, subst, arith, slice_get, Contains}
 use Rattle.std.specs.Prelude.{option_and_then, is_some, ◌==◌, slice_index_or, unwrap_or, int_lt}
 use Rattle.std.specs.List.{list_any, filter}
 use Rattle.std.specs.Option.{option_map}
@@ -11,7 +11,7 @@ use Rattle.sc_formula.specs.declared.structure.FunSig.{FunSig}
 use Rattle.sc_formula.specs.declared.structure.SetSig.{SetSig}
 use Rattle.sc_formula.specs.declared.structure.Signature.{Signature}
 use Rattle.sc_formula.specs.declared.structure.SVal.{SVal}
-use Rattle.sc_formula.specs.declared.structure.SVal.TheVariants.{Rec, Flag, Num, Str}
+use Rattle.sc_formula.specs.declared.structure.SVal.TheVariants.{Rec, Num, Str}
 use Rattle.sc_formula.specs.declared.structure.Structure.{Structure}
 use Rattle.sc_formula.specs.Over.{IsFunction, IsOver, HasRange, AreComparable}
 use Rattle.sc_formula.specs.Trees.{Term, Formula, bound, num, str, app, yes, no, equal, less, has, flag, present, negation, both, either, exists, forall}
@@ -24,8 +24,8 @@ use Rattle.sc_terms.proofs.CutStructure.{from_filter}
 use Rattle.sc_tables.specs.Vocabulary.{Vocabulary, Pair, IsVocabulary, IsValued, IsValuedIn, CoversTerm, CoversAtom, CoversPair, term_at, told}
 use Rattle.sc_tables.specs.Table.{Table, is_there, holds, value_at}
 use Rattle.sc_tables.specs.Consistent.{IsConsistent, range_of}
-use Rattle.sc_tables.specs.Made.{classes, place, element, made_value, made_relation, made, made_choice, table_of, value_in}
-use Rattle.sc_tables.proofs.Sound.{told_function, is_some_value}
+use Rattle.sc_tables.specs.Made.{classes, place, element, made_value, made_relation, made, made_choice, table_of}
+use Rattle.sc_tables.proofs.Sound.{is_some_value}
 use Rattle.sc_tables.proofs.Classes.{sort_value, named_told, class_listed, one_class, at_there, one_element, sorted_range}
 use Rattle.sc_tables.proofs.MadeValues.{element_made, asked_made, value_made, named_valued}
 use Rattle.sc_tables.proofs.Transfer.{AreTerms}

@@ -1,8 +1,8 @@
 -- The structure of a consistent table is over the signature, and its choice is one of its elements.
-use Rattle.std.proofs.Common.{◌≡◌, ℕ, zero, suc, ◌+◌, ◌<◌, ◌≤◌, inl, inr, Bool, true, false, ◌&&◌, refl, sym, ◌∙◌, List, [], ◌∷◌, Some, None, Option, length, cond, ap, subst, arith, slice_get, Contains, map}
+use Rattle.std.proofs.Common.{◌≡◌, ℕ, ◌+◌, ◌<◌, Bool, true, false, ◌&&◌, refl, sym, ◌∙◌, List, [], Some, None, Option, length, cond, ap, subst, arith, slice_get, Contains}
 use Rattle.std.specs.Prelude.{option_and_then, is_some, ◌==◌, slice_index_or, unwrap_or, nat_lt, pos, FitsSigned}
 use Rattle.std.specs.Int.{w64}
-use Rattle.std.specs.List.{find, filter, All, range_with_len}
+use Rattle.std.specs.List.{find, All}
 use Rattle.std.specs.Option.{option_map}
 use Rattle.std.proofs.lemmas.Bool.{and_parts, eqb-true}
 use Rattle.std.proofs.lemmas.List.FromFn.{length-map-range_with_len}
@@ -20,8 +20,8 @@ use Rattle.sc_formula.specs.declared.structure.SVal.TheVariants.{Rec, Flag, Num,
 use Rattle.sc_formula.specs.declared.structure.Structure.{Structure}
 use Rattle.sc_formula.specs.Over.{IsFunction, IsOver}
 use Rattle.sc_formula.specs.Trees.{Formula}
-use Rattle.sc_formula.specs.Truth.{entry, size_of}
-use Rattle.sc_terms.specs.GroundTerms.{GroundTerm, GroundTerms, constant, skolem, field, sort_of, target_of, record_sort}
+use Rattle.sc_formula.specs.Truth.{size_of}
+use Rattle.sc_terms.specs.GroundTerms.{GroundTerm, skolem, field, sort_of}
 use Rattle.sc_terms.specs.Parts.{Variable}
 use Rattle.sc_terms.specs.Universe.{variables_of}
 use Rattle.sc_terms.specs.Structures.{IsStructure, IsValueOf, IsEntryOf}
@@ -30,13 +30,13 @@ use Rattle.sc_terms.proofs.Lists.{find-Contains, cond_true}
 use Rattle.sc_terms.proofs.Kept.{All-from, enumerated, length-enumerated}
 use Rattle.sc_terms.proofs.CutStructure.{from_filter}
 use Rattle.sc_terms.proofs.Typed.{target_at, target_below, source_below}
-use Rattle.sc_tables.specs.Vocabulary.{Vocabulary, Pair, IsVocabulary, IsFunctionAt, told}
+use Rattle.sc_tables.specs.Vocabulary.{Vocabulary, IsVocabulary, told}
 use Rattle.sc_tables.specs.Table.{Table, is_there}
-use Rattle.sc_tables.specs.Consistent.{IsConsistent, IsOfRange, range_of}
-use Rattle.sc_tables.specs.Made.{classes, made_size, place, element, default, made_value, blank, is_at, made_entry, made_function, made_relation, is_variable, made, made_choice}
+use Rattle.sc_tables.specs.Consistent.{IsConsistent, IsOfRange}
+use Rattle.sc_tables.specs.Made.{classes, made_size, element, default, made_value, blank, is_at, made_entry, made_function, made_relation, is_variable, made, made_choice}
 use Rattle.sc_tables.proofs.Positions.{find-passes, below, is_below}
-use Rattle.sc_tables.proofs.Sound.{told_function, is_some_value}
-use Rattle.sc_tables.proofs.Classes.{at_there, at_within, sort_below, size_made, size_within, place_within, default_within, some_size, some_not_empty}
+use Rattle.sc_tables.proofs.Sound.{is_some_value}
+use Rattle.sc_tables.proofs.Classes.{at_there, at_within, size_made, place_within, default_within, some_size, some_not_empty}
 use Rattle.sc_tables.proofs.MadeValues.{found_at, made_row, made_at, variable_at, one_variable}
 
 pub zero_fits : FitsSigned w64 (pos 0)

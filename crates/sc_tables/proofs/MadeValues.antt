@@ -1,7 +1,7 @@
 -- What terms name in the structure of a consistent table.
-use Rattle.std.proofs.Common.{◌≡◌, ℕ, ◌+◌, ◌<◌, inl, inr, Bool, true, false, ◌&&◌, refl, sym, ◌∙◌, List, [], ◌∷◌, Some, None, Option, length, cond, ap, subst, arith, slice_get, Contains, map}
-use Rattle.std.specs.Prelude.{option_and_then, is_some, not, ◌==◌, slice_index_or, unwrap_or, nat_lt, max}
-use Rattle.std.specs.List.{find, list_any, range_with_len}
+use Rattle.std.proofs.Common.{◌≡◌, ℕ, ◌+◌, ◌<◌, Bool, true, false, refl, sym, ◌∙◌, List, [], ◌∷◌, Some, None, Option, cond, ap, subst, arith, slice_get, Contains}
+use Rattle.std.specs.Prelude.{option_and_then, is_some, not, ◌==◌, slice_index_or, unwrap_or, nat_lt}
+use Rattle.std.specs.List.{find, list_any}
 use Rattle.std.specs.Option.{option_map}
 use Rattle.std.proofs.lemmas.Bool.{and_parts, eqb-true}
 use Rattle.std.proofs.lemmas.List.FromFn.{get_or-map-range_with_len}
@@ -11,28 +11,27 @@ use Rattle.sc_formula.specs.declared.structure.Range.TheVariants as kinds
 use Rattle.sc_formula.specs.declared.structure.FunSig.{FunSig}
 use Rattle.sc_formula.specs.declared.structure.Signature.{Signature}
 use Rattle.sc_formula.specs.declared.structure.SVal.{SVal}
-use Rattle.sc_formula.specs.declared.structure.SVal.TheVariants.{Rec, Flag, Num, Str}
+use Rattle.sc_formula.specs.declared.structure.SVal.TheVariants.{Rec}
 use Rattle.sc_formula.specs.declared.structure.Structure.{Structure}
 use Rattle.sc_formula.specs.Over.{IsFunction, IsOver}
 use Rattle.sc_formula.specs.Trees.{Formula}
 use Rattle.sc_formula.specs.Truth.{element_of, entry, size_of}
-use Rattle.sc_terms.specs.GroundTerms.{GroundTerm, GroundTerms, constant, skolem, field, no_terms, term_and, sort_of, source_of, record_sort, is_number}
+use Rattle.sc_terms.specs.GroundTerms.{GroundTerm, GroundTerms, constant, skolem, field, no_terms, term_and, sort_of, is_number}
 use Rattle.sc_terms.specs.Parts.{Variable}
 use Rattle.sc_terms.specs.Universe.{HaveSorts, HasEach, variables_of}
 use Rattle.sc_terms.specs.Passing.{Choice, element_named, elements_named}
-use Rattle.sc_terms.proofs.Lists.{Contains-head, find-any, find-Contains, cond_true, cond_false}
+use Rattle.sc_terms.proofs.Lists.{find-any, find-Contains, cond_true}
 use Rattle.sc_terms.proofs.Kept.{enumerated, list_any-from, nat_same}
 use Rattle.sc_terms.proofs.CutFacts.{is_the_number, number_is}
 use Rattle.sc_terms.proofs.Numbers.{variables_once}
-use Rattle.sc_terms.proofs.Typed.{source_below}
-use Rattle.sc_tables.specs.Vocabulary.{Vocabulary, IsVocabulary, IsFunctionAt, IsValued, IsValuedIn, told}
+use Rattle.sc_tables.specs.Vocabulary.{Vocabulary, IsVocabulary, IsValued, IsValuedIn, told}
 use Rattle.sc_tables.specs.Table.{Table, is_there, IsSame, AreSame}
 use Rattle.sc_tables.specs.Consistent.{IsConsistent, range_of}
 use Rattle.sc_tables.specs.Made.{class_of, classes, made_size, place, element, default, made_value, is_at, made_entry, made_function, are_at, is_variable, made, made_choice, value_in}
-use Rattle.sc_tables.proofs.Positions.{find-front, find-passes, marked_once, below}
+use Rattle.sc_tables.proofs.Positions.{find-front, marked_once, below}
 use Rattle.sc_tables.proofs.Sound.{told_function, is_some_value}
 use Rattle.std.proofs.lemmas.List.Elements.{Contains-append_left}
-use Rattle.sc_tables.proofs.Classes.{from_class, size_made, IsAt, at_sort, at_value, at_none, at_there, at_within, is_at_place, one_element, sort_value, sort_below, named_told, place_at, place_within, not_empty, some_size, empty, default_within, sorted_range}
+use Rattle.sc_tables.proofs.Classes.{from_class, size_made, IsAt, at_value, at_none, at_there, at_within, is_at_place, one_element, sort_value, sort_below, named_told, place_at, some_size, empty, sorted_range}
 
 elements_step : {A : Type 0} (o : Option ℕ) (xs : Option (List ℕ)) (ys : List ℕ) → option_and_then (λ x. option_map (λ xs. x ∷ xs) xs) o ≡ Some ys
     → ((x : ℕ) (zs : List ℕ) → o ≡ Some x → xs ≡ Some zs → ys ≡ x ∷ zs → A) → A

@@ -13,7 +13,7 @@ use Rattle.sc_formula.specs.Over.{HasRange, IsOver}
 use Rattle.sc_formula.specs.Trees.{Term, Formula, bound, num, str, app, yes, no, equal, less, has, flag, present, negation, both, either, exists, forall}
 use Rattle.sc_formula.specs.Truth.{truth, value_of, entry, element_of, number_of, are_equal, both_pass, is_true_value, relates}
 use Rattle.sc_formula.specs.NormalForm.{IsAtom}
-use Rattle.sc_terms.specs.GroundTerms.{GroundTerm, constant, skolem, field, sort_of}
+use Rattle.sc_terms.specs.GroundTerms.{GroundTerm, constant, skolem, field}
 use Rattle.sc_terms.specs.Passing.{Choice, element_named}
 use Rattle.sc_terms.specs.Reading.{Agree, AreNamed, atoms_of}
 use Rattle.sc_terms.proofs.Lists.{Contains-cons_cases, Contains-none}

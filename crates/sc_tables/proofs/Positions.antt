@@ -1,12 +1,12 @@
 -- Where numbers stand in a list, and what a search finds.
-use Rattle.std.proofs.Common.{◌≡◌, ℕ, zero, suc, ◌+◌, ◌<◌, ◌≤◌, inl, inr, Bool, true, false, not, ◌||◌, refl, sym, ◌∙◌, List, [], ◌∷◌, ◌++◌, Some, None, Option, length, cond, ap, subst, arith, slice_get, Contains, map}
+use Rattle.std.proofs.Common.{◌≡◌, ℕ, zero, suc, ◌+◌, ◌<◌, inl, inr, Bool, true, false, not, refl, sym, ◌∙◌, List, [], ◌∷◌, ◌++◌, Some, None, length, cond, ap, subst, arith, slice_get, Contains, map}
 use Rattle.std.specs.Prelude.{◌==◌, max, nat_lt, unwrap_or}
-use Rattle.std.specs.List.{find, list_any, position, position_or_len}
+use Rattle.std.specs.List.{find, position, position_or_len}
 use Rattle.std.proofs.lemmas.Bool.Decides.{eqb_tells, leb_tells}
 use Rattle.std.proofs.lemmas.Option.{slice_get_within}
 use Rattle.sc_terms.specs.Listing.{HasNoRepeats}
 use Rattle.sc_terms.proofs.Lists.{Contains-head, Contains-tail, Contains-cons_cases, Contains-none}
-use Rattle.sc_terms.proofs.Kept.{nat_same, nat_apart}
+use Rattle.sc_terms.proofs.Kept.{nat_same}
 use Rattle.sc_terms.proofs.Listed.{to_map}
 
 -- the position of x in y and the others

@@ -1,14 +1,13 @@
 -- The table of a structure is consistent.
-use Rattle.std.proofs.Common.{◌≡◌, ℕ, zero, suc, ◌<◌, ◌≤◌, inl, inr, Bool, true, false, not, refl, sym, ◌∙◌, List, [], ◌∷◌, Some, None, Option, ap, subst, arith, slice_get, Contains}
+use Rattle.std.proofs.Common.{◌≡◌, ℕ, zero, suc, ◌<◌, inl, inr, true, false, not, refl, sym, ◌∙◌, List, ◌∷◌, Some, None, Option, ap, subst, arith, Contains}
 use Rattle.std.specs.Prelude.{option_and_then, is_some, ◌==◌, IsTrue}
 use Rattle.std.specs.Option.{option_map}
 use Rattle.std.proofs.lemmas.Bool.Decides.{eqb_tells}
-use Rattle.std.proofs.lemmas.List.Elements.{Contains-append_cases, Contains-append_left}
+use Rattle.std.proofs.lemmas.List.Elements.{Contains-append_cases}
 use Rattle.std.proofs.lemmas.Option.{option_and_then_some}
 use Rattle.sc_formula.specs.declared.structure.Range.{Range}
 use Rattle.sc_formula.specs.declared.structure.Range.TheVariants as kinds
 use Rattle.sc_formula.specs.declared.structure.FunSig.{FunSig}
-use Rattle.sc_formula.specs.declared.structure.SetSig.{SetSig}
 use Rattle.sc_formula.specs.declared.structure.Signature.{Signature}
 use Rattle.sc_formula.specs.declared.structure.SVal.{SVal}
 use Rattle.sc_formula.specs.declared.structure.SVal.TheVariants.{Rec, Flag, Num, Str}
@@ -21,8 +20,7 @@ use Rattle.sc_terms.specs.Parts.{Variable}
 use Rattle.sc_terms.specs.Universe.{HasEach, is_needed}
 use Rattle.sc_terms.specs.Passing.{Choice, IsChoice, element_named, elements_named}
 use Rattle.sc_terms.specs.Structures.{IsStructure, IsValueOf, IsEntryOf, size_of}
-use Rattle.sc_terms.proofs.Kept.{nat_same}
-use Rattle.sc_tables.specs.Vocabulary.{Vocabulary, Pair, IsVocabulary, IsFunctionAt, IsFormed, IsOther, IsValued, told}
+use Rattle.sc_tables.specs.Vocabulary.{Vocabulary, IsVocabulary, IsFunctionAt, IsOther, told}
 use Rattle.sc_tables.specs.Table.{Table, IsSame, AreSame, is_there}
 use Rattle.sc_tables.specs.Consistent.{IsConsistent, IsOfRange, range_of}
 use Rattle.sc_tables.specs.Made.{table_of, value_in}

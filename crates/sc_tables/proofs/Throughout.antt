@@ -1,6 +1,6 @@
 -- Each element of the structure of a consistent table is named by a term, or is the default of its sort.
-use Rattle.std.proofs.Common.{◌≡◌, ℕ, zero, ◌<◌, ◌≤◌, ◌⊎◌, inl, inr, Bool, true, false, refl, sym, ◌∙◌, List, [], ◌∷◌, Some, None, Option, length, cond, ap, subst, arith, slice_get, Contains}
-use Rattle.std.specs.Prelude.{option_and_then, ◌==◌, slice_index_or, nat_lt, max}
+use Rattle.std.proofs.Common.{◌≡◌, ℕ, ◌<◌, inl, inr, Bool, true, false, refl, ◌∙◌, List, [], Some, length, cond, ap, arith, slice_get, Contains}
+use Rattle.std.specs.Prelude.{◌==◌, slice_index_or, nat_lt}
 use Rattle.std.specs.List.{flat_map}
 use Rattle.std.specs.Option.{option_map, option_or, option_to_list}
 use Rattle.std.proofs.lemmas.Bool.{cases_lt}
@@ -12,9 +12,9 @@ use Rattle.sc_formula.specs.Over.{IsOver}
 use Rattle.sc_formula.specs.Trees.{Formula}
 use Rattle.sc_formula.specs.Truth.{elements, size_of}
 use Rattle.sc_terms.specs.GroundTerms.{GroundTerm, sort_of, is_number}
-use Rattle.sc_terms.specs.Listing.{HasNoRepeats, unique}
+use Rattle.sc_terms.specs.Listing.{HasNoRepeats}
 use Rattle.sc_terms.specs.Passing.{Choice, IsNamed}
-use Rattle.sc_terms.specs.Cut.{IsNamedThroughout, default_of}
+use Rattle.sc_terms.specs.Cut.{IsNamedThroughout}
 use Rattle.sc_terms.proofs.Lists.{Contains-none, Contains-flat_map, cond_true}
 use Rattle.sc_terms.proofs.Kept.{nat_same}
 use Rattle.sc_terms.proofs.CutFacts.{number_is}

@@ -1,5 +1,5 @@
 -- Tables that could be those of a structure.
-use Rattle.std.specs.Prelude.{◌≡◌, ℕ, Bool, true, false, not, List, Option, None, Some, is_some, Contains, slice_get, FitsSigned}
+use Rattle.std.specs.Prelude.{◌≡◌, ℕ, true, false, not, Option, Some, Contains, slice_get, FitsSigned}
 use Rattle.std.specs.Int.{w64}
 use Rattle.std.specs.Option.{option_map}
 use Rattle.sc_ast.specs.Words.{IsText}

@@ -1,5 +1,5 @@
 -- The table of a structure, and the structure of a table.
-use Rattle.std.specs.Prelude.{◌≡◌, ℕ, ◌<◌, Bool, true, false, ◌&&◌, List, [], ◌∷◌, Option, None, Some, cond, length, map, max, pos, nat_lt, option_and_then, unwrap_or, slice_index_or, ◌==◌}
+use Rattle.std.specs.Prelude.{ℕ, Bool, true, false, ◌&&◌, List, [], ◌∷◌, Option, None, Some, cond, length, map, max, pos, nat_lt, option_and_then, unwrap_or, slice_index_or, ◌==◌}
 use Rattle.std.specs.List.{find, filter, flat_map, position, range_with_len, enumerate_from}
 use Rattle.std.specs.Option.{option_map, option_to_list}
 use Rattle.sc_formula.specs.declared.structure.Range.{Range}
@@ -14,7 +14,7 @@ use Rattle.sc_formula.specs.Truth.{size_of, entry, relates, both_pass, element_o
 use Rattle.sc_terms.specs.GroundTerms.{GroundTerm, GroundTerms, constant, skolem, field, no_terms, term_and, sort_of, is_number}
 use Rattle.sc_terms.specs.Listing.{unique}
 use Rattle.sc_terms.specs.Passing.{Choice, element_named}
-use Rattle.sc_tables.specs.Vocabulary.{Vocabulary, Pair, told}
+use Rattle.sc_tables.specs.Vocabulary.{Vocabulary, told}
 use Rattle.sc_tables.specs.Table.{Table}
 
 module _ (s : Structure) (c : Choice) where

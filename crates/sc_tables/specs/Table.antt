@@ -1,6 +1,5 @@
 -- Tables: what terms have, and the reading that comes of it.
-use Rattle.std.specs.Prelude.{◌≡◌, ℕ, Bool, true, false, List, [], ◌∷◌, Option, Some, None, option_and_then, is_some, slice_get, int_lt}
-use Rattle.std.specs.Option.{option_map}
+use Rattle.std.specs.Prelude.{◌≡◌, ℕ, Bool, false, List, Option, Some, option_and_then, is_some, slice_get, int_lt}
 use Rattle.sc_formula.specs.declared.structure.SVal.{SVal}
 use Rattle.sc_formula.specs.declared.structure.SVal.TheVariants.{Num, Str}
 use Rattle.sc_formula.specs.Trees.{Term, Formula, bound, num, str, app, yes, no, equal, less, has, flag, present, negation, both, either, exists, forall}
