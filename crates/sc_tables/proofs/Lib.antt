@@ -5,6 +5,7 @@ pub mod Classes
 pub mod Clausal
 pub mod Closing
 pub mod ConsistentMet
+pub mod Instances
 pub mod Lawful
 pub mod MadeAtoms
 pub mod MadeStructure
@@ -13,5 +14,7 @@ pub mod ClausesMet
 pub mod Own
 pub mod Positions
 pub mod Sound
+pub mod TermsFormed
 pub mod Throughout
 pub mod Transfer
+pub mod Vocabularies

@@ -46,7 +46,7 @@ unmoved : (h : SVal → SVal) → ((w : SVal) → h w ≡ w) → (o : Option SVa
 unmoved h same None = refl
 unmoved h same (Some w) = ap (λ w. Some w) (same w)
 
-term_named : (g : Signature) (terms : List GroundTerm) (scope : List ℕ) (env : List GroundTerm) (depth sort : ℕ) → AreTerms g terms scope env
+pub term_named : (g : Signature) (terms : List GroundTerm) (scope : List ℕ) (env : List GroundTerm) (depth sort : ℕ) → AreTerms g terms scope env
     → slice_get scope depth ≡ Some sort → (t : GroundTerm) × (slice_get env depth ≡ Some t) × Contains terms t × (sort_of g t ≡ Some sort)
 term_named g terms [] [] depth sort h e = cc
 term_named g terms [] (t ∷ env) depth sort h e = absurd h

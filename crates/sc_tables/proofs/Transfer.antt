@@ -15,7 +15,7 @@ AreTerms g terms [] (t ∷ ts) = ⊥
 AreTerms g terms (sort ∷ sorts) [] = ⊥
 AreTerms g terms (sort ∷ sorts) (t ∷ ts) = (Contains terms t × (sort_of g t ≡ Some sort)) × AreTerms g terms sorts ts
 
-terms_more : (g : Signature) (terms : List GroundTerm) (sorts : List ℕ) (ts : List GroundTerm) (sort : ℕ) (t : GroundTerm) → AreTerms g terms sorts ts
+pub terms_more : (g : Signature) (terms : List GroundTerm) (sorts : List ℕ) (ts : List GroundTerm) (sort : ℕ) (t : GroundTerm) → AreTerms g terms sorts ts
     → Contains terms t → sort_of g t ≡ Some sort → AreTerms g terms (sorts ++ sort ∷ []) (ts ++ t ∷ [])
 terms_more g terms [] [] sort t h there kind = ((there, kind), tt)
 terms_more g terms [] (u ∷ ts) sort t h there kind = absurd h

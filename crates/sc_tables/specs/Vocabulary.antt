@@ -117,3 +117,12 @@ pub record IsVocabulary (g : Signature) (f : Formula) (terms : List GroundTerm) 
   pub functions : (t : GroundTerm) → Contains v.others t → IsOther g v t
   pub related : (p : Pair) → Contains v.pairs p → (sig : SetSig) × (slice_get g.sets p.relation ≡ Some sig)
       × (sort_of g p.holder ≡ Some sig.from) × Contains v.named p.holder × (sort_of g p.member ≡ Some sig.to) × Contains v.named p.member
+
+-- a vocabulary of terms alone
+abbrev pub only : List GroundTerm → Vocabulary
+only terms = record { named = terms; others = []; pairs = [] }
+
+-- the terms of a list name elements, and are formed of each other
+pub record AreFormed (g : Signature) (f : Formula) (terms : List GroundTerm) : Type 0 where
+  pub sorted : (t : GroundTerm) → Contains terms t → (sort : ℕ) × (sort_of g t ≡ Some sort)
+  pub formed : (t : GroundTerm) → Contains terms t → IsFormed g f (only terms) t

@@ -9,11 +9,12 @@ ghost use Rattle.sc_formula.specs.declared.structure.Range.TheVariants as Range;
 ghost use Rattle.sc_formula.specs.declared.structure.Signature.{Signature};
 ghost use Rattle.sc_formula.specs.declared.structure.Structure.{Structure};
 ghost use Rattle.sc_terms.specs.GroundTerms.{GroundTerm, no_terms};
+ghost use Rattle.sc_terms.specs.Listing.{Lists};
 ghost use Rattle.sc_terms.specs.Passing.{Choice, IsChoice, IsSatisfiableOver, PassesWith};
 ghost use Rattle.sc_terms.specs.Reading.{Agree, Reads};
 ghost use Rattle.sc_terms.specs.Satisfying.{SatisfiesWith, leading_elements};
 ghost use Rattle.sc_terms.specs.Structures.{IsStructure};
-ghost use Rattle.sc_terms.specs.Universe.{IsClosedSet};
+ghost use Rattle.sc_terms.specs.Universe.{ArisesWithin, IsClosedSet, IsHerbrandTerm};
 ghost use Rattle.sc_tables.specs.Clauses.{IsTyped, base_clauses, congruence_clauses};
 ghost use Rattle.sc_tables.specs.Consistent.{IsConsistent, range_of};
 ghost use Rattle.sc_tables.specs.Facts.{Assignment, Fact, facts_at, ground, is_fact, is_met};
@@ -21,7 +22,18 @@ ghost use Rattle.sc_tables.specs.Facts.{same, table_for, text};
 ghost use Rattle.sc_tables.specs.Made.{made, made_choice, table_of};
 ghost use Rattle.sc_tables.specs.Models.{IsLawful, Model, assignment_of};
 ghost use Rattle.sc_tables.specs.Table.{Table, holds, is_there};
-ghost use Rattle.sc_tables.specs.Vocabulary.{IsVocabulary, Vocabulary, told};
+ghost use Rattle.sc_tables.specs.Vocabulary.{AreFormed, IsVocabulary, Vocabulary, told};
+
+/// A formula has a vocabulary over each list of terms that are formed of each other, as are those
+/// that arise within so many rounds and those of a stratified formula.
+pub fn vocabularies_exist()
+    ensures exists { (g : Signature) (f : Formula) (terms : List GroundTerm) →
+        IsOver g [] f → AreFormed g f terms → (v : Vocabulary) × IsVocabulary g f terms v }
+    ensures within { (g : Signature) (f : Formula) (n : ℕ) (terms : List GroundTerm) →
+        IsOver g [] f → Lists (ArisesWithin g f n) terms → AreFormed g f terms }
+    ensures herbrand { (g : Signature) (f : Formula) (terms : List GroundTerm) →
+        IsOver g [] f → Lists (IsHerbrandTerm g f) terms → AreFormed g f terms }
+{}
 
 /// A structure with a choice has a table, which is consistent, with which it agrees, and over which
 /// each formula is read that the structure passes.
