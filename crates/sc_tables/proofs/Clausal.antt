@@ -1,11 +1,10 @@
 -- Where the clauses are met the table is consistent.
-use Rattle.std.proofs.Common.{◌≡◌, ℕ, Bool, true, false, not, ◌&&◌, ◌||◌, inl, inr, refl, sym, ◌∙◌, List, [], ◌∷◌, ◌++◌, Some, None, Option, cond, ap, subst, slice_get, Contains, map}
+use Rattle.std.proofs.Common.{◌≡◌, ℕ, Bool, true, false, not, ◌&&◌, ◌||◌, inl, inr, refl, sym, ◌∙◌, List, [], ◌∷◌, ◌++◌, Some, None, Option, cond, ap, subst, Contains, map}
 use Rattle.std.specs.Prelude.{◌==◌, option_and_then}
 use Rattle.std.specs.List.{flat_map}
 use Rattle.std.specs.Option.{option_map}
-use Rattle.std.proofs.lemmas.Bool.{and_parts, eqb-true}
 use Rattle.std.proofs.lemmas.List.Elements.{Contains-append_cases, Contains-append_left, Contains-append_right}
-use Rattle.std.proofs.lemmas.Option.{slice_get_within, slice_get-get_or, get_or_from_slice_get}
+use Rattle.std.proofs.lemmas.Option.{slice_get_within, get_or_from_slice_get}
 use Rattle.sc_formula.specs.declared.structure.Range.{Range}
 use Rattle.sc_formula.specs.declared.structure.Range.TheVariants as kinds
 use Rattle.sc_formula.specs.declared.structure.FunSig.{FunSig}
@@ -16,22 +15,18 @@ use Rattle.sc_formula.specs.Over.{IsFunction}
 use Rattle.sc_formula.specs.Trees.{Formula}
 use Rattle.sc_formula.specs.Truth.{is_raised}
 use Rattle.sc_terms.specs.GroundTerms.{GroundTerm, GroundTerms, constant, skolem, field, no_terms, term_and, list_of, sort_of, record_sort}
-use Rattle.sc_terms.specs.Universe.{HaveSorts, HasEach}
+use Rattle.sc_terms.specs.Universe.{HasEach}
 use Rattle.sc_terms.proofs.Lists.{cond_true, cond_false}
 use Rattle.sc_terms.proofs.Kept.{nat_same}
 use Rattle.sc_tables.specs.Vocabulary.{Vocabulary, Pair, IsVocabulary, IsValued, IsValuedIn, told}
 use Rattle.sc_tables.specs.Table.{Table, is_there, IsSame, AreSame}
 use Rattle.sc_tables.specs.Consistent.{IsConsistent, IsOfRange, range_of}
-use Rattle.sc_tables.specs.Facts.{Assignment, Fact, Clause, ground, there, same, raised, related, empty, so, not_so, implied, table_for, is_met}
+use Rattle.sc_tables.specs.Facts.{Assignment, Fact, Clause, ground, there, same, raised, related, empty, so, not_so, implied, table_for}
 use Rattle.sc_tables.specs.Clauses.{IsTyped, one_and_same, all_same, total_clauses, term_clauses, sort_clauses, sort_clauses_of, target_clauses, function_clauses, pair_clauses, alike_clauses, element_clauses, value_clauses, value_clauses_of, relation_clauses, for_pairs, base_clauses, congruence_clauses}
-use Rattle.sc_terms.specs.Parts.{Variable}
-use Rattle.sc_terms.specs.Universe.{variables_of}
-use Rattle.sc_terms.proofs.Numbers.{variables_once}
-use Rattle.sc_tables.proofs.Positions.{marked_once}
 use Rattle.sc_tables.proofs.MadeAtoms.{one_truth}
 use Rattle.sc_tables.proofs.Sound.{told_function}
-use Rattle.sc_tables.proofs.ClausesMet.{AreMet, AreFacts, met_append, append_met, met_flat, flat_met, met_if, met_unless, implied_met, met_implied, facts_append, append_facts}
-use Rattle.sc_tables.proofs.Assigned.{equal_same, same_equal, there_is, value_there, value_none, there_value, to_same, to_all_same, element_typed, from_same, from_all_same}
+use Rattle.sc_tables.proofs.ClausesMet.{AreMet, AreFacts, append_met, flat_met, met_implied, facts_append}
+use Rattle.sc_tables.proofs.Assigned.{equal_same, there_is, value_there, value_none, there_value, from_same, from_all_same}
 
 not_true : (b : Bool) → not b ≡ true → b ≡ false
 not_true true e = cc

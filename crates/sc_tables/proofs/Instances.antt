@@ -1,5 +1,5 @@
 -- The instances of a formula's atoms over a list of terms.
-use Rattle.std.proofs.Common.{◌≡◌, ℕ, ◌+◌, inl, inr, refl, sym, ◌∙◌, List, [], ◌∷◌, ◌++◌, Some, None, Option, subst, Contains}
+use Rattle.std.proofs.Common.{◌≡◌, ℕ, ◌+◌, inl, inr, refl, List, [], ◌∷◌, ◌++◌, Some, None, Option, subst, Contains}
 use Rattle.std.specs.List.{flat_map}
 use Rattle.std.proofs.lemmas.List.Elements.{Contains-append_cases, Contains-append_left, Contains-append_right}
 use Rattle.sc_formula.specs.declared.structure.Signature.{Signature}
@@ -171,7 +171,7 @@ module _ (g : Signature) (f : Formula) (terms : List GroundTerm) where
       here_both : (number : ℕ) (scope : List ℕ) (labels : List (Option GroundTerm)) (above : List ℕ) (a b : Formula) (env : List GroundTerm) (args : GroundTerms)
           → IsHere number scope labels above (either a b) env args → IsHere number scope labels above (both a b) env args
       here_both number scope labels above a b env args h =
-          record { over = h.over; inside = h.inside; env_terms = h.env_terms; sorts = h.sorts; listed = h.listed; }
+          record { over = h.over; inside = h.inside; env_terms = h.env_terms; sorts = h.sorts; listed = h.listed }
 
       pub walk : (a : Formula) (number : ℕ) (scope : List ℕ) (labels : List (Option GroundTerm)) (above : List ℕ) (env : List GroundTerm) (args : GroundTerms)
           → IsHere number scope labels above a env args → AllNamed (names number env args a) → IsWalked number env args a

@@ -1,19 +1,19 @@
 -- The terms that arise within so many rounds are formed of each other.
-use Rattle.std.proofs.Common.{◌≡◌, ℕ, zero, suc, inl, inr, refl, sym, ◌∙◌, List, [], Some, None, Option, ap, subst, slice_get, Contains}
+use Rattle.std.proofs.Common.{◌≡◌, ℕ, zero, suc, inl, inr, refl, sym, List, [], Some, None, Option, subst, slice_get, Contains}
 use Rattle.std.specs.Prelude.{option_and_then}
 use Rattle.sc_formula.specs.declared.structure.FunSig.{FunSig}
 use Rattle.sc_formula.specs.declared.structure.Signature.{Signature}
-use Rattle.sc_formula.specs.Over.{IsOver, IsFunction}
+use Rattle.sc_formula.specs.Over.{IsOver}
 use Rattle.sc_formula.specs.Trees.{Formula}
 use Rattle.sc_terms.specs.GroundTerms.{GroundTerm, GroundTerms, constant, skolem, field, no_terms, term_and, sort_of, source_of, target_of, record_sort}
 use Rattle.sc_terms.specs.Universe.{IsFirstTerm, IsAppliedTo, ArisesWithin, IsHerbrandTerm, HasEach}
 use Rattle.sc_terms.specs.Listing.{Lists, own_names}
 use Rattle.std.proofs.lemmas.List.Elements.{Contains-append_right}
-use Rattle.sc_terms.specs.Universe.{terms_of, HaveSorts}
+use Rattle.sc_terms.specs.Universe.{terms_of}
 use Rattle.sc_terms.proofs.Recorded.{terms_made, functions_there}
 use Rattle.sc_terms.proofs.Stages.{other_first, no_field}
 use Rattle.sc_terms.proofs.Stratified.{arises_later}
-use Rattle.sc_tables.specs.Vocabulary.{AreFormed, IsFormed, IsFunctionAt, only}
+use Rattle.sc_tables.specs.Vocabulary.{AreFormed, IsFormed, only}
 
 module _ (g : Signature) (f : Formula) (over : IsOver g [] f) (terms : List GroundTerm) where
   abbrev IsFine : GroundTerm → Type 0

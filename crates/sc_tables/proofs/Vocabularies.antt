@@ -1,6 +1,5 @@
 -- Each formula has a vocabulary over a list of terms that are formed of each other.
-use Rattle.std.proofs.Common.{◌≡◌, ℕ, zero, suc, ◌+◌, inl, inr, refl, sym, ◌∙◌, List, [], ◌∷◌, ◌++◌, Some, None, Option, ap, subst, slice_get, Contains}
-use Rattle.std.specs.Prelude.{option_and_then}
+use Rattle.std.proofs.Common.{◌≡◌, ℕ, inl, inr, refl, sym, ◌∙◌, List, [], ◌∷◌, ◌++◌, Some, None, Option, ap, subst, slice_get, Contains}
 use Rattle.std.specs.List.{flat_map}
 use Rattle.std.specs.Option.{option_map, option_to_list}
 use Rattle.std.proofs.lemmas.List.Elements.{Contains-append_cases, Contains-append_left, Contains-append_right}
@@ -11,12 +10,12 @@ use Rattle.sc_formula.specs.declared.structure.SetSig.{SetSig}
 use Rattle.sc_formula.specs.declared.structure.Signature.{Signature}
 use Rattle.sc_formula.specs.Over.{IsOver, HasRange, IsFunction}
 use Rattle.sc_formula.specs.Trees.{Term, Formula, bound, num, str, app, yes, no, equal, less, has, flag, present, negation, both, either, exists, forall}
-use Rattle.sc_terms.specs.GroundTerms.{GroundTerm, GroundTerms, constant, skolem, field, no_terms, term_and, sort_of, target_of, record_sort}
+use Rattle.sc_terms.specs.GroundTerms.{GroundTerm, GroundTerms, constant, skolem, field, no_terms, term_and, sort_of, target_of}
 use Rattle.sc_terms.specs.Parts.{if_element}
 use Rattle.sc_terms.specs.Universe.{HasEach}
 use Rattle.sc_terms.proofs.Lists.{Contains-head, Contains-cons_cases, Contains-none, Contains-flat_map, flat_map-Contains}
 use Rattle.sc_terms.proofs.Typed.{to_option, from_option, in_element, to_element, target_at}
-use Rattle.sc_tables.specs.Vocabulary.{AreFormed, only, Vocabulary, Pair, IsVocabulary, IsFormed, IsOther, IsFunctionAt, IsValuedIn, CoversTerm, CoversAtom, CoversPair, term_at, told}
+use Rattle.sc_tables.specs.Vocabulary.{AreFormed, only, Vocabulary, Pair, IsVocabulary, IsFormed, IsOther, IsFunctionAt, IsValuedIn, CoversTerm, CoversAtom, term_at}
 use Rattle.sc_tables.proofs.Transfer.{AreTerms}
 use Rattle.sc_tables.proofs.MadeAtoms.{term_named}
 use Rattle.sc_tables.proofs.Instances.{Instance, IsGood, instances, names, covers_from, walk}
@@ -279,13 +278,17 @@ module _ (g : Signature) (f : Formula) (v : Vocabulary) where
           ),
         )
     atom_whole (flag h t) (sig, there, p, to) (sub, (all, pairs)) = (
-      (covered t (kinds.Rec sig.from) p sub (λ x c. all x (Contains-append_right (option_to_list (term_at env (app h t))) (all_in env t) x c)),
-      λ x e. Contains-append_right v.named v.others x (all x (Contains-append_left (option_to_list (term_at env (app h t))) (all_in env t) x (to_option (term_at env (app h t)) x e)))),
+      (
+        covered t (kinds.Rec sig.from) p sub (λ x c. all x (Contains-append_right (option_to_list (term_at env (app h t))) (all_in env t) x c)),
+        λ x e. Contains-append_right v.named v.others x (all x (Contains-append_left (option_to_list (term_at env (app h t))) (all_in env t) x (to_option (term_at env (app h t)) x e))),
+      ),
       (all_formed t (kinds.Rec sig.from) p sub, (flag_functions h t sig there p sub, λ p c. Contains-none p c)),
     )
     atom_whole (present h t) (sig, there, p) (sub, (all, pairs)) = (
-      (covered t (kinds.Rec sig.from) p sub (λ x c. all x (Contains-append_right (option_to_list (term_at env (app h t))) (all_in env t) x c)),
-      λ x e. Contains-append_right v.named v.others x (all x (Contains-append_left (option_to_list (term_at env (app h t))) (all_in env t) x (to_option (term_at env (app h t)) x e)))),
+      (
+        covered t (kinds.Rec sig.from) p sub (λ x c. all x (Contains-append_right (option_to_list (term_at env (app h t))) (all_in env t) x c)),
+        λ x e. Contains-append_right v.named v.others x (all x (Contains-append_left (option_to_list (term_at env (app h t))) (all_in env t) x (to_option (term_at env (app h t)) x e))),
+      ),
       (all_formed t (kinds.Rec sig.from) p sub, (flag_functions h t sig there p sub, λ p c. Contains-none p c)),
     )
     atom_whole (negation a) h l = (tt, (λ x c. Contains-none x c, (λ x c. Contains-none x c, λ p c. Contains-none p c)))
@@ -328,7 +331,7 @@ module _ (g : Signature) (f : Formula) (terms : List GroundTerm) where
         × ((t : GroundTerm) → Contains all_names t → (IsFormed g f words t) × ((sort : ℕ) × (sort_of g t ≡ Some sort)))
     walked =
         walk g f terms words ranged_named f 0 [] [] [] [] no_terms
-        (record { over = over; inside = λ p c. c; env_terms = tt; sorts = tt; listed = tt; }) names_named
+        (record { over = over; inside = λ p c. c; env_terms = tt; sorts = tt; listed = tt }) names_named
 
     whole : (i : Instance) → (c : Contains all_instances i)
         → IsWhole g f words (walked.0 i c).scope i.env (walked.0 i c).above i.atom
