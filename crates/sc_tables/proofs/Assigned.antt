@@ -35,7 +35,7 @@ int_same n = search (rules, Decides-int_eq)
 same_text : (a b : List ℕ) → pointwise nat_eq a b ≡ true → a ≡ b
 same_text a b e = search rules
 
-text_same : (a : List ℕ) → pointwise nat_eq a a ≡ true
+pub text_same : (a : List ℕ) → pointwise nat_eq a a ≡ true
 text_same [] = refl
 text_same (x ∷ xs) = let here = nat_same x in let rest = text_same xs in cc
 

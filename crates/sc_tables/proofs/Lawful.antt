@@ -38,17 +38,17 @@ module _ (g : Signature) (texts : List (List ℕ)) (spare : ℕ → List ℕ) (m
   abbrev a : Assignment
   a = assignment_of g texts spare m
 
-  abbrev written : ℕ → List ℕ
+  abbrev pub written : ℕ → List ℕ
   written k = text_for g texts spare m k
 
   -- the text of a class is one of the formula's that has it, or the spare one
-  abbrev IsTextFor : ℕ → List ℕ → Type 0
+  abbrev pub IsTextFor : ℕ → List ℕ → Type 0
   IsTextFor k w = (Contains texts w × (m.text_class w ≡ k)) ⊎ (IsWithoutText g texts spare m k × (w ≡ spare k))
 
   abbrev has_class : ℕ → List ℕ → Bool
   has_class k t = m.text_class t == k
 
-  written_is : (k : ℕ) → IsTextFor k (written k)
+  pub written_is : (k : ℕ) → IsTextFor k (written k)
   written_is k = choose (find (has_class k) texts) refl
     where
       none : find (has_class k) texts ≡ None → IsWithoutText g texts spare m k

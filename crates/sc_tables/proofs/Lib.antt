@@ -11,8 +11,10 @@ pub mod MadeAtoms
 pub mod MadeStructure
 pub mod MadeValues
 pub mod ClausesMet
+pub mod Modeled
 pub mod Own
 pub mod Positions
+pub mod SameTold
 pub mod Sound
 pub mod TermsFormed
 pub mod Throughout

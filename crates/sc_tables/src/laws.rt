@@ -2,6 +2,7 @@
 
 ghost use Rattle.std.specs.Prelude.{◌≡◌, ◌↔◌, ◌==◌, ℕ, IsTrue, List, [], ◌++◌, Some, Contains};
 ghost use Rattle.std.specs.List.{list_all};
+ghost use Rattle.sc_ast.specs.Words.{IsText};
 ghost use Rattle.sc_formula.specs.NormalForm.{IsNormal};
 ghost use Rattle.sc_formula.specs.Over.{IsOver};
 ghost use Rattle.sc_formula.specs.Trees.{Formula};
@@ -133,4 +134,19 @@ pub fn models_are_assignments()
         range_of g t ≡ Some Range.Str →
         is_fact (assignment_of g texts spare m) (same (ground t) (text w))
         ≡ (m.class t == m.text_class w) }
+{}
+
+/// Some structure passes a formula over a list of terms exactly where decision procedures find a
+/// lawful model by which the clauses are met and the formula is read over the terms.
+pub fn models_are_complete()
+    ensures { (g : Signature) (f : Formula) (terms : List GroundTerm) (v : Vocabulary)
+        (texts : List (List ℕ)) →
+        IsOver g [] f → IsNormal f → IsVocabulary g f terms v →
+        ((w : List ℕ) → Contains texts w → IsText w) →
+        (IsSatisfiableOver g f (Contains terms) ↔ ((spare : ℕ → List ℕ) × (m : Model)
+        × IsLawful g texts spare m v
+        × IsTrue (list_all (is_met (assignment_of g texts spare m))
+        (base_clauses g v ++ congruence_clauses g v))
+        × Reads g (is_there (table_for (assignment_of g texts spare m)))
+        (holds (table_for (assignment_of g texts spare m))) terms 0 [] no_terms f)) }
 {}

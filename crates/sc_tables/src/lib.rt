@@ -7,5 +7,6 @@ mod laws;
 
 pub use laws::{
     assignments_are_complete, atoms_are_facts, clauses_are_consistency, models_are_assignments,
-    structure_has_table, table_has_structure, tables_are_complete, vocabularies_exist,
+    models_are_complete, structure_has_table, table_has_structure, tables_are_complete,
+    vocabularies_exist,
 };
