@@ -1,6 +1,7 @@
 -- The assignment of a lawful model.
 use Rattle.std.proofs.Common.{◌≡◌, ℕ, Bool, true, false, ◌⊎◌, inl, inr, refl, sym, ◌∙◌, List, Some, None, Option, ap, subst, Contains}
-use Rattle.std.specs.Prelude.{unwrap_or, ◌==◌}
+use Rattle.std.specs.Prelude.{unwrap_or, int_lt, ◌==◌}
+use Rattle.std.specs.Ordering.{int_eq}
 use Rattle.std.specs.List.{find}
 use Rattle.std.proofs.lemmas.Bool.{eqb-true}
 use Rattle.std.proofs.lemmas.Bool.Decides.{eqb_tells}
@@ -9,17 +10,17 @@ use Rattle.sc_formula.specs.declared.structure.Range.{Range}
 use Rattle.sc_formula.specs.declared.structure.Range.TheVariants as kinds
 use Rattle.sc_formula.specs.declared.structure.Signature.{Signature}
 use Rattle.sc_formula.specs.declared.structure.SVal.{SVal}
-use Rattle.sc_formula.specs.declared.structure.SVal.TheVariants.{Str}
-use Rattle.sc_formula.specs.Truth.{are_equal}
+use Rattle.sc_formula.specs.declared.structure.SVal.TheVariants.{Num, Str}
+use Rattle.sc_formula.specs.Truth.{are_equal, both_pass, is_raised, number_of}
 use Rattle.sc_terms.specs.GroundTerms.{GroundTerm}
 use Rattle.sc_terms.proofs.Lists.{find-Contains}
 use Rattle.sc_terms.proofs.Kept.{nat_same, list_any-from}
 use Rattle.sc_terms.proofs.Lists.{find-any}
 use Rattle.sc_tables.specs.Vocabulary.{Vocabulary, told}
 use Rattle.sc_tables.specs.Consistent.{IsOfRange, range_of}
-use Rattle.sc_tables.specs.Facts.{Assignment, ground, text, same, is_fact}
+use Rattle.sc_tables.specs.Facts.{Noun, Assignment, ground, number, text, same, below, raised, is_fact, noun_value}
 use Rattle.sc_tables.specs.Clauses.{IsTyped}
-use Rattle.sc_tables.specs.Models.{Model, IsLawful, IsWithoutText, text_for, value_for, assignment_of}
+use Rattle.sc_tables.specs.Models.{Model, IsLawful, IsNumeric, IsWithoutText, noun_number, text_for, value_for, assignment_of}
 use Rattle.sc_tables.proofs.Positions.{find-passes}
 use Rattle.sc_tables.proofs.Assigned.{equal_same, same_equal}
 
@@ -145,3 +146,21 @@ module _ (g : Signature) (texts : List (List ℕ)) (spare : ℕ → List ℕ) (m
       ∙ same_test (Str (written (m.class t))) (Str w) (m.class t) (m.text_class w)
       (λ e. one_text t w (c, p) d (text-value (written (m.class t)) w (equal_same (Str (written (m.class t))) (Str w) e)))
       (λ e. same_equal kinds.Str (Str (written (m.class t))) (Str w) tt (text_fits t (c, p)) (ap (λ w. Str w) (ap written e ∙ own_text w d)))
+
+  -- the value of a number
+  numeric_is : (x : Noun) → IsNumeric g x → noun_value a x ≡ Num (noun_number m x)
+  numeric_is (ground t) kind = value_is t kinds.Num kind
+  numeric_is (number n) h = refl
+  numeric_is (text w) h = absurd h
+
+  pub numbers_below : (x y : Noun) → IsNumeric g x → IsNumeric g y → is_fact a (below x y) ≡ int_lt (noun_number m x) (noun_number m y)
+  numbers_below x y p q =
+      ap (λ v. both_pass int_lt (number_of v) (number_of (noun_value a y))) (numeric_is x p)
+      ∙ ap (λ v. both_pass int_lt (number_of (Num (noun_number m x))) (number_of v)) (numeric_is y q)
+
+  pub numbers_same : (x y : Noun) → IsNumeric g x → IsNumeric g y → is_fact a (same x y) ≡ int_eq (noun_number m x) (noun_number m y)
+  numbers_same x y p q =
+      ap (λ v. are_equal v (noun_value a y)) (numeric_is x p) ∙ ap (are_equal (Num (noun_number m x))) (numeric_is y q)
+
+  pub flags_raised : (t : GroundTerm) → range_of g t ≡ Some kinds.Flag → is_fact a (raised t) ≡ m.raised t
+  flags_raised t kind = ap is_raised (value_is t kinds.Flag kind)

@@ -1,5 +1,5 @@
 -- What decision procedures find, and the assignment that it stands for.
-use Rattle.std.specs.Prelude.{◌≡◌, ℕ, ℤ, Bool, false, List, Option, None, Some, unwrap_or, Contains, FitsSigned, ◌==◌}
+use Rattle.std.specs.Prelude.{◌≡◌, ℕ, ℤ, Bool, false, List, Option, None, Some, unwrap_or, pos, Contains, FitsSigned, ◌==◌}
 use Rattle.std.specs.Int.{w64}
 use Rattle.std.specs.List.{find}
 use Rattle.sc_ast.specs.Words.{IsText}
@@ -11,7 +11,7 @@ use Rattle.sc_formula.specs.declared.structure.SVal.TheVariants.{Rec, Flag, Num,
 use Rattle.sc_terms.specs.GroundTerms.{GroundTerm}
 use Rattle.sc_tables.specs.Vocabulary.{Vocabulary, told}
 use Rattle.sc_tables.specs.Consistent.{range_of}
-use Rattle.sc_tables.specs.Facts.{Assignment}
+use Rattle.sc_tables.specs.Facts.{Noun, Assignment, ground, number, text}
 
 -- which facts hold that need no procedure; the classes of terms and of the formula's texts, which are the same where these are equal;
 -- and the numbers of terms
@@ -23,6 +23,17 @@ pub record Model : Type 0 where
   pub class : GroundTerm → ℕ
   pub text_class : List ℕ → ℕ
   pub number : GroundTerm → ℤ
+
+-- a noun that is a number, and which
+abbrev pub IsNumeric : Signature → Noun → Type 0
+IsNumeric g (ground t) = range_of g t ≡ Some range.Num
+IsNumeric g (number n) = Unit {0}
+IsNumeric g (text t) = ⊥
+
+abbrev pub noun_number : Model → Noun → ℤ
+noun_number m (ground t) = m.number t
+noun_number m (number n) = n
+noun_number m (text t) = pos 0
 
 -- the formula's texts, and texts for classes that have none of these
 module _ (g : Signature) (texts : List (List ℕ)) (spare : ℕ → List ℕ) (m : Model) where

@@ -1,6 +1,8 @@
 //! What holds of the tables of any formula and any list of terms.
 
 ghost use Rattle.std.specs.Prelude.{◌≡◌, ◌↔◌, ◌==◌, ℕ, IsTrue, List, [], ◌++◌, Some, Contains};
+ghost use Rattle.std.specs.Prelude.{int_lt};
+ghost use Rattle.std.specs.Ordering.{int_eq};
 ghost use Rattle.std.specs.List.{list_all};
 ghost use Rattle.sc_ast.specs.Words.{IsText};
 ghost use Rattle.sc_formula.specs.NormalForm.{IsNormal};
@@ -18,10 +20,10 @@ ghost use Rattle.sc_terms.specs.Structures.{IsStructure};
 ghost use Rattle.sc_terms.specs.Universe.{ArisesWithin, IsClosedSet, IsHerbrandTerm};
 ghost use Rattle.sc_tables.specs.Clauses.{IsTyped, base_clauses, congruence_clauses};
 ghost use Rattle.sc_tables.specs.Consistent.{IsConsistent, range_of};
-ghost use Rattle.sc_tables.specs.Facts.{Assignment, Fact, facts_at, ground, is_fact, is_met};
-ghost use Rattle.sc_tables.specs.Facts.{same, table_for, text};
+ghost use Rattle.sc_tables.specs.Facts.{Assignment, Fact, Noun, below, facts_at, ground, is_fact};
+ghost use Rattle.sc_tables.specs.Facts.{is_met, raised, same, table_for, text};
 ghost use Rattle.sc_tables.specs.Made.{made, made_choice, table_of};
-ghost use Rattle.sc_tables.specs.Models.{IsLawful, Model, assignment_of};
+ghost use Rattle.sc_tables.specs.Models.{IsLawful, IsNumeric, Model, assignment_of, noun_number};
 ghost use Rattle.sc_tables.specs.Table.{Table, holds, is_there};
 ghost use Rattle.sc_tables.specs.Vocabulary.{AreFormed, IsVocabulary, Vocabulary, told};
 
@@ -110,8 +112,9 @@ pub fn atoms_are_facts()
         holds (table_for a) env atom ≡ list_all (is_fact a) facts }
 {}
 
-/// What decision procedures find stands for an assignment: each term has what its range asks, and
-/// elements and texts are the same where their classes are.
+/// What decision procedures find stands for an assignment: each term has what its range asks;
+/// elements and texts are the same where their classes are, and numbers and truth values are those
+/// that were found.
 pub fn models_are_assignments()
     ensures typed { (g : Signature) (v : Vocabulary) (texts : List (List ℕ)) (spare : ℕ → List ℕ)
         (m : Model) →
@@ -134,6 +137,20 @@ pub fn models_are_assignments()
         range_of g t ≡ Some Range.Str →
         is_fact (assignment_of g texts spare m) (same (ground t) (text w))
         ≡ (m.class t == m.text_class w) }
+    ensures numbers { (g : Signature) (v : Vocabulary) (texts : List (List ℕ))
+        (spare : ℕ → List ℕ) (m : Model) (x y : Noun) →
+        IsLawful g texts spare m v → IsNumeric g x → IsNumeric g y →
+        is_fact (assignment_of g texts spare m) (same x y)
+        ≡ int_eq (noun_number m x) (noun_number m y) }
+    ensures order { (g : Signature) (v : Vocabulary) (texts : List (List ℕ))
+        (spare : ℕ → List ℕ) (m : Model) (x y : Noun) →
+        IsLawful g texts spare m v → IsNumeric g x → IsNumeric g y →
+        is_fact (assignment_of g texts spare m) (below x y)
+        ≡ int_lt (noun_number m x) (noun_number m y) }
+    ensures flags { (g : Signature) (v : Vocabulary) (texts : List (List ℕ))
+        (spare : ℕ → List ℕ) (m : Model) (t : GroundTerm) →
+        IsLawful g texts spare m v → range_of g t ≡ Some Range.Flag →
+        is_fact (assignment_of g texts spare m) (raised t) ≡ m.raised t }
 {}
 
 /// Some structure passes a formula over a list of terms exactly where decision procedures find a
