@@ -1,10 +1,10 @@
 -- An assignment is that of a lawful model.
-use Rattle.std.proofs.Common.{◌≡◌, ℕ, ℤ, zero, suc, Bool, true, false, inl, inr, ◌⊎◌, refl, sym, ◌∙◌, List, [], ◌∷◌, ◌++◌, Some, None, Option, cond, ap, subst, Contains}
+use Rattle.std.proofs.Common.{◌≡◌, ℕ, ℤ, suc, Bool, true, false, inl, inr, refl, sym, ◌∙◌, List, [], ◌∷◌, ◌++◌, Some, None, cond, ap, subst, Contains}
 use Rattle.std.specs.Prelude.{IsTrue, pos, slice_index_or, FitsSigned}
 use Rattle.std.specs.Int.{w64}
 use Rattle.std.specs.List.{flat_map, list_all}
 use Rattle.std.specs.Option.{option_map}
-use Rattle.std.proofs.lemmas.List.Elements.{Contains-append_cases, Contains-append_left, Contains-append_right}
+use Rattle.std.proofs.lemmas.List.Elements.{Contains-append_left, Contains-append_right}
 use Rattle.sc_ast.specs.Words.{IsText}
 use Rattle.sc_formula.specs.declared.structure.Range.{Range}
 use Rattle.sc_formula.specs.declared.structure.Range.TheVariants as kinds
@@ -20,11 +20,11 @@ use Rattle.sc_terms.specs.Passing.{IsSatisfiableOver}
 use Rattle.sc_terms.specs.Reading.{Reads}
 use Rattle.sc_terms.proofs.Lists.{Contains-head, Contains-cons_cases, Contains-none, flat_map-Contains}
 use Rattle.sc_tables.specs.Vocabulary.{Vocabulary, IsVocabulary, told}
-use Rattle.sc_tables.specs.Table.{Table, holds, is_there}
-use Rattle.sc_tables.specs.Consistent.{IsConsistent, IsOfRange, range_of}
+use Rattle.sc_tables.specs.Table.{holds, is_there}
+use Rattle.sc_tables.specs.Consistent.{IsOfRange, range_of}
 use Rattle.sc_tables.specs.Facts.{Assignment, is_met, table_for}
 use Rattle.sc_tables.specs.Clauses.{IsTyped, base_clauses, congruence_clauses}
-use Rattle.sc_tables.specs.Models.{Model, IsLawful, IsSpare, text_for, value_for, assignment_of}
+use Rattle.sc_tables.specs.Models.{Model, IsLawful, text_for, value_for, assignment_of}
 use Rattle.sc_tables.proofs.Sound.{told_function}
 use Rattle.sc_tables.proofs.Assigned.{equal_same, text_same}
 use Rattle.sc_tables.proofs.Assignments.{assigned, from_assigned, consistent_from, met_from}

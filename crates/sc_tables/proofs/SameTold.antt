@@ -1,5 +1,5 @@
 -- Tables that differ at terms alone of which nothing is told.
-use Rattle.std.proofs.Common.{◌≡◌, ℕ, zero, suc, Bool, true, false, inl, inr, refl, sym, ◌∙◌, List, [], ◌∷◌, Some, None, Option, ap, subst, slice_get, Contains}
+use Rattle.std.proofs.Common.{◌≡◌, ℕ, zero, suc, true, refl, sym, ◌∙◌, List, [], ◌∷◌, Some, None, Option, ap, subst, slice_get, Contains}
 use Rattle.std.specs.Prelude.{is_some, int_lt, option_and_then}
 use Rattle.std.proofs.lemmas.List.Elements.{Contains-append_left}
 use Rattle.sc_formula.specs.declared.structure.Signature.{Signature}
