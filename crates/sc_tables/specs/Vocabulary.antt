@@ -1,0 +1,128 @@
+-- What a table speaks of.
+use Rattle.std.specs.Prelude.{◌≡◌, ℕ, ◌+◌, List, [], ◌∷◌, ◌++◌, Option, None, Some, Contains, IsTrue, slice_get}
+use Rattle.std.specs.Option.{option_map}
+use Rattle.sc_formula.specs.declared.structure.FunSig.{FunSig}
+use Rattle.sc_formula.specs.declared.structure.SetSig.{SetSig}
+use Rattle.sc_formula.specs.declared.structure.Signature.{Signature}
+use Rattle.sc_formula.specs.Over.{IsFunction}
+use Rattle.sc_formula.specs.Trees.{Term, Formula, bound, num, str, app, yes, no, equal, less, has, flag, present, negation, both, either, exists, forall}
+use Rattle.sc_terms.specs.GroundTerms.{GroundTerm, GroundTerms, constant, skolem, field, no_terms, and_last, sort_of}
+use Rattle.sc_terms.specs.Parts.{quantifiers}
+use Rattle.sc_terms.specs.Universe.{variables_of, is_needed, HaveSorts, HasEach}
+
+-- a set relation at two terms
+pub record Pair : Type 0 where
+  pub relation : ℕ
+  pub holder : GroundTerm
+  pub member : GroundTerm
+
+-- the terms that name elements; further functions at these, which have numbers, texts or truth values, or of which it only matters
+-- whether they have anything; and the set relations at two of the first terms
+pub record Vocabulary : Type 0 where
+  pub named : List GroundTerm
+  pub others : List GroundTerm
+  pub pairs : List Pair
+
+-- all terms
+abbrev pub told : Vocabulary → List GroundTerm
+told v = v.named ++ v.others
+
+-- the ground term that a term of the formula is where the variables above are these terms
+abbrev pub term_at : List GroundTerm → Term → Option GroundTerm
+term_at env (bound sort depth) = slice_get env depth
+term_at env (num n) = None
+term_at env (str t) = None
+term_at env (app h t) = option_map (field h) (term_at env t)
+
+module _ (g : Signature) (v : Vocabulary) where
+  -- a function of the signature at a term that names an element of its source
+  abbrev pub IsFunctionAt : ℕ → GroundTerm → Type 0
+  IsFunctionAt h t = (sig : FunSig) × IsFunction g h sig × (sort_of g t ≡ Some sig.from) × Contains v.named t
+
+  -- a term with a sort names an element, and any other has a value
+  abbrev pub IsValuedIn : Option ℕ → GroundTerm → Type 0
+  IsValuedIn None t = Contains (told v) t
+  IsValuedIn (Some sort) t = Contains v.named t
+
+  abbrev pub IsValued : GroundTerm → Type 0
+  IsValued t = IsValuedIn (sort_of g t) t
+
+  module _ (env : List GroundTerm) where
+    -- a term of the formula, where the variables above are these terms, is valued with all its parts
+    abbrev pub CoversTerm : Term → Type 0
+    CoversTerm (bound sort depth) = Unit {0}
+    CoversTerm (num n) = Unit {0}
+    CoversTerm (str t) = Unit {0}
+    CoversTerm (app h t) = CoversTerm t × ((x : GroundTerm) → term_at env (app h t) ≡ Some x → IsValued x)
+
+    -- and a function at such a term is told
+    abbrev pub CoversFunction : ℕ → Term → Type 0
+    CoversFunction h t = CoversTerm t × ((x : GroundTerm) → term_at env (app h t) ≡ Some x → Contains (told v) x)
+
+    abbrev pub CoversPair : ℕ → Term → Term → Type 0
+    CoversPair r t u =
+        (x y : GroundTerm) → term_at env t ≡ Some x → term_at env u ≡ Some y → Contains v.pairs (record { relation = r; holder = x; member = y })
+
+    -- all that an atom speaks of is there
+    abbrev pub CoversAtom : Formula → Type 0
+    CoversAtom yes = Unit {0}
+    CoversAtom no = Unit {0}
+    CoversAtom (equal t u) = CoversTerm t × CoversTerm u
+    CoversAtom (less t u) = CoversTerm t × CoversTerm u
+    CoversAtom (has r t u) = CoversTerm t × CoversTerm u × CoversPair r t u
+    CoversAtom (flag h t) = CoversFunction h t
+    CoversAtom (present h t) = CoversFunction h t
+    CoversAtom (negation a) = Unit {0}
+    CoversAtom (both a b) = Unit {0}
+    CoversAtom (either a b) = Unit {0}
+    CoversAtom (exists sort a) = Unit {0}
+    CoversAtom (forall sort a) = Unit {0}
+
+  -- and all that a formula speaks of where it is read over the terms
+  abbrev pub Covers : List GroundTerm → ℕ → List GroundTerm → GroundTerms → Formula → Type 0
+  Covers terms number env args yes = CoversAtom env yes
+  Covers terms number env args no = CoversAtom env no
+  Covers terms number env args (equal t u) = CoversAtom env (equal t u)
+  Covers terms number env args (less t u) = CoversAtom env (less t u)
+  Covers terms number env args (has r t u) = CoversAtom env (has r t u)
+  Covers terms number env args (flag h t) = CoversAtom env (flag h t)
+  Covers terms number env args (present h t) = CoversAtom env (present h t)
+  Covers terms number env args (negation a) = CoversAtom env a
+  Covers terms number env args (both a b) = Covers terms number env args a × Covers terms (number + quantifiers a) env args b
+  Covers terms number env args (either a b) = Covers terms number env args a × Covers terms (number + quantifiers a) env args b
+  Covers terms number env args (exists sort a) =
+      Contains v.named (skolem number sort args) × Covers terms (number + 1) (env ++ skolem number sort args ∷ []) args a
+  Covers terms number env args (forall sort a) =
+      (t : GroundTerm) → Contains terms t → sort_of g t ≡ Some sort → Covers terms (number + 1) (env ++ t ∷ []) (and_last args t) a
+
+-- a term that names an element is the constant of a needed sort, or the variable of an `exists` or a function at such terms
+abbrev pub IsFormed : Signature → Formula → Vocabulary → GroundTerm → Type 0
+IsFormed g f v (constant sort) = IsTrue (is_needed g f sort)
+IsFormed g f v (skolem number sort ts) =
+    (above : List ℕ) × Contains (variables_of g f) (record { number = number; sort = sort; above = above }) × HaveSorts g ts above × HasEach (Contains v.named) ts
+IsFormed g f v (field h t) = IsFunctionAt g v h t
+
+-- the other terms are functions at such terms
+abbrev pub IsOther : Signature → Vocabulary → GroundTerm → Type 0
+IsOther g v (constant sort) = ⊥
+IsOther g v (skolem number sort ts) = ⊥
+IsOther g v (field h t) = IsFunctionAt g v h t
+
+-- the vocabulary has the terms over which a formula is read, all that it speaks of there, and what its own terms are made of
+pub record IsVocabulary (g : Signature) (f : Formula) (terms : List GroundTerm) (v : Vocabulary) : Type 0 where
+  pub ranged : (t : GroundTerm) → Contains terms t → Contains v.named t
+  pub covers : Covers g v terms 0 [] no_terms f
+  pub sorted : (t : GroundTerm) → Contains v.named t → (sort : ℕ) × (sort_of g t ≡ Some sort)
+  pub formed : (t : GroundTerm) → Contains v.named t → IsFormed g f v t
+  pub functions : (t : GroundTerm) → Contains v.others t → IsOther g v t
+  pub related : (p : Pair) → Contains v.pairs p → (sig : SetSig) × (slice_get g.sets p.relation ≡ Some sig)
+      × (sort_of g p.holder ≡ Some sig.from) × Contains v.named p.holder × (sort_of g p.member ≡ Some sig.to) × Contains v.named p.member
+
+-- a vocabulary of terms alone
+abbrev pub only : List GroundTerm → Vocabulary
+only terms = record { named = terms; others = []; pairs = [] }
+
+-- the terms of a list name elements, and are formed of each other
+pub record AreFormed (g : Signature) (f : Formula) (terms : List GroundTerm) : Type 0 where
+  pub sorted : (t : GroundTerm) → Contains terms t → (sort : ℕ) × (sort_of g t ≡ Some sort)
+  pub formed : (t : GroundTerm) → Contains terms t → IsFormed g f (only terms) t
