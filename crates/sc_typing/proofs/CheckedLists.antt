@@ -1,6 +1,8 @@
 -- Lists whose parts are checked from the left.
-use Rattle.std.proofs.Common.{zero, suc, ◌≡◌, ◌<◌, ◌≤◌, ℕ, ◌+◌, List, [], ◌∷◌, ◌++◌, map, length, drop, get_or, refl, sym, ◌∙◌, ap, arith}
-use Rattle.std.specs.Prelude.{Ok}
+use Rattle.std.proofs.Common.{zero, suc, ◌≡◌, ◌≢◌, ◌<◌, ◌≤◌, ℕ, ◌+◌, List, [], ◌∷◌, ◌++◌, map, length, drop, get_or, refl, sym, ◌∙◌, ap, arith}
+use Rattle.std.specs.Prelude.{Ok, Err}
+use Rattle.sc_typing.specs.declared.type_err.TypeErr.{TypeErr}
+use Rattle.sc_typing.specs.declared.type_err.TypeErr.TheVariants.{OutOfMemory}
 use Rattle.sc_typing.specs.Outcome.{Checked, ◌>>=◌, checked_from}
 
 -- the part at i is next
@@ -18,3 +20,15 @@ no_part f [] zero done over = refl
 no_part f [] (suc i) done over = refl
 no_part f (x ∷ xs) zero done over = absurd (omega arith)
 no_part f (x ∷ xs) (suc i) done over = no_part f xs i done (omega arith)
+
+-- a fault of the part at i is one of the whole
+pub part_stops : {A B : Type 0} (f : A → Checked B) (xs : List A) (i : ℕ) (x : A) (done : List B) (whole : Checked (List B)) (err : TypeErr) → i < length xs → x ≡ get_or xs i x
+    → checked_from done (map f (drop i xs)) ≡ whole → (err ≢ OutOfMemory → f x ≡ Err err) → err ≢ OutOfMemory → whole ≡ Err err
+part_stops {A} {B} f xs i x done whole err within is so_far fault ne =
+    sym so_far ∙ next_part f xs i x done within is ∙ ap (λ (o : Checked B). o >>= (λ y. checked_from (done ++ y ∷ []) (map f (drop (i + 1) xs)))) (fault ne)
+
+-- the part at i is done too
+pub part_goes_on : {A B : Type 0} (f : A → Checked B) (xs : List A) (i : ℕ) (x : A) (done : List B) (whole : Checked (List B)) (one : B) → i < length xs → x ≡ get_or xs i x
+    → checked_from done (map f (drop i xs)) ≡ whole → f x ≡ Ok one → checked_from (done ++ one ∷ []) (map f (drop (i + 1) xs)) ≡ whole
+part_goes_on {A} {B} f xs i x done whole one within is so_far found =
+    sym (ap (λ (o : Checked B). o >>= (λ y. checked_from (done ++ y ∷ []) (map f (drop (i + 1) xs)))) found) ∙ sym (next_part f xs i x done within is) ∙ so_far

@@ -1,3 +1,9 @@
 pub mod CheckedLists
+pub mod Fitted
+pub mod Forms
 pub mod Lookups
+pub mod Parts
+pub mod Seen
+pub mod Sound
+pub mod Steps
 pub mod WorkedTypes

@@ -2,12 +2,13 @@
 use Rattle.std.proofs.Common.{rules}
 use Rattle.sc_typing.specs.Names.{field_named, model_named, static_named, var_named}
 use Rattle.sc_typing.specs.Asked.{among_principals, base_of, field_of_record, fits, id_asked, id_of, inner_asked, may_hold, none_of, option_of, same_type, set_of_ids, under}
+use Rattle.sc_typing.specs.Exprs.{typed_expr, typed_set}
 use Rattle.sc_typing.specs.Compared.{alike, compared, left_asked, ordered, signed, tested}
 use Rattle.sc_tree.specs.declared.exprs.Expr as trees
 use Rattle.sc_typing.specs.Worked.{WorkedTypes}
 
 pub worked : WorkedTypes
-unfolding field_named model_named static_named var_named among_principals base_of field_of_record fits id_asked id_of inner_asked may_hold none_of option_of same_type set_of_ids under alike compared left_asked ordered signed tested
+unfolding typed_expr typed_set field_named model_named static_named var_named among_principals base_of field_of_record fits id_asked id_of inner_asked may_hold none_of option_of same_type set_of_ids under alike compared left_asked ordered signed tested
 worked = record {
   field_is_found = search (rules, trees.the_lemmas);
   unknown_field = search (rules, trees.the_lemmas);

@@ -9,9 +9,11 @@ use Rattle.sc_schema.specs.declared.types.TTy.{TTy}
 use Rattle.sc_schema.specs.declared.types.TTy.TheVariants.{Plain, Set, Opt}
 use Rattle.sc_schema.specs.declared.trees.TExpr.{TExpr}
 use Rattle.sc_schema.specs.declared.trees.TExpr.TheVariants as t
+use Rattle.sc_schema.specs.declared.trees.TSet.{TSet}
 use Rattle.sc_schema.specs.Schema.{Schema, is_principal_model}
 use Rattle.sc_typing.specs.declared.asked.Content.{Content}
 use Rattle.sc_typing.specs.declared.asked.Content.TheVariants.{Principals, Records}
+use Rattle.sc_typing.specs.declared.asked.Source.{Source}
 use Rattle.sc_typing.specs.declared.asked.Typed.{Typed}
 use Rattle.sc_typing.specs.declared.vars.Var.{Var}
 use Rattle.sc_typing.specs.declared.type_err.TypeErr.TheVariants.{Unknown, Twice, WrongType, NotPrincipal}
@@ -119,6 +121,10 @@ may_hold s (Records n) m at = if n == m then Ok tt else Err (WrongType at)
 unfoldable pub among_principals : Content → ℕ → Checked (Unit {0})
 among_principals Principals at = Ok tt
 among_principals (Records n) at = Err (WrongType at)
+
+-- a chain of records of the model
+abbrev pub source : ℕ → ℕ → TSet → Source
+source at m set = record { at = at; model = m; set = set }
 
 -- what a set with this content asks of an item
 unfoldable pub id_asked : Content → Option TTy

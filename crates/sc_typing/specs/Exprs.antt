@@ -24,7 +24,7 @@ use Rattle.sc_typing.specs.declared.asked.Typed.{Typed}
 use Rattle.sc_typing.specs.declared.vars.Var.{Var}
 use Rattle.sc_typing.specs.declared.type_err.TypeErr.TheVariants.{Unknown, WrongType}
 use Rattle.sc_typing.specs.Names.{field_named, model_named, static_named, var_named}
-use Rattle.sc_typing.specs.Asked.{among_principals, base_of, field_of_record, fits, id_asked, id_of, inner_asked, may_hold, none_of, option_of, of_type, set_of_ids, truth, under}
+use Rattle.sc_typing.specs.Asked.{among_principals, base_of, field_of_record, fits, id_asked, id_of, inner_asked, may_hold, none_of, option_of, of_type, set_of_ids, source, truth, under}
 use Rattle.sc_typing.specs.Compared.{compared, left_asked, tested}
 use Rattle.sc_typing.specs.Outcome.{Checked, ◌>>=◌, all_checked, or_else}
 
@@ -130,17 +130,17 @@ module _ (s : Schema) where
   source_layer (SetExpr-F.Find model filters at) vars = do
     m ← or_else (model_named s model.name) (Unknown model.at)
     tests ← all_checked (map (λ (f : FilterTyping). f vars m) filters)
-    Ok (record { at = model.at; model = m; set = ts.Find m tests })
+    Ok (source model.at m (ts.Find m tests))
   source_layer (SetExpr-F.Path e at) vars = do
     of ← e vars None
     m ← set_of_ids of.ty of.at
-    Ok (record { at = of.at; model = m; set = ts.Path m of.tree })
+    Ok (source of.at m (ts.Path m of.tree))
   source_layer (SetExpr-F.MapS of x e at) vars = do
     over ← of.source vars
     inner ← under vars x (Plain (base.Id over.model))
     each ← e inner None
     m ← id_of each.ty each.at
-    Ok (record { at = over.at; model = m; set = ts.MapS over.set over.model x.name m each.tree })
+    Ok (source over.at m (ts.MapS over.set over.model x.name m each.tree))
   source_layer (SetExpr-F.FlatS of x set at) vars = Err (WrongType at)
   source_layer (SetExpr-F.IfS c a b at) vars = Err (WrongType at)
   source_layer (SetExpr-F.MatchS e a x b at) vars = Err (WrongType at)
@@ -202,8 +202,25 @@ module _ (s : Schema) where
   filter_typing = fold-Filter ExprTyping ItemTyping SetTyping FilterTyping expr_layer item_layer set_layer filter_layer
 
   -- the expression where this type is asked, or none, and the set where this content is
-  abbrev pub typed_expr : List Var → Option TTy → Expr → Checked Typed
+  unfoldable pub typed_expr : List Var → Option TTy → Expr → Checked Typed
   typed_expr vars asked e = expr_typing e vars asked
 
-  abbrev pub typed_set : List Var → Content → SetExpr → Checked TSet
+  unfoldable pub typed_set : List Var → Content → SetExpr → Checked TSet
   typed_set vars content set = (set_typing set).type vars content
+
+  -- the set that `map` or `flat_map` goes over
+  unfoldable pub typed_source : List Var → SetExpr → Checked Source
+  typed_source vars set = (set_typing set).source vars
+
+  -- the items of a list where this content is asked, and the filters on records of a model
+  unfoldable pub typed_item : List Var → Content → Item → Checked TItem
+  typed_item vars content item = item_typing item vars content
+
+  abbrev pub typed_items : List Var → Content → List Item → Checked (List TItem)
+  typed_items vars content items = all_checked (map (typed_item vars content) items)
+
+  unfoldable pub typed_filter : List Var → ℕ → Filter → Checked TFilter
+  typed_filter vars m filter = filter_typing filter vars m
+
+  abbrev pub typed_filters : List Var → ℕ → List Filter → Checked (List TFilter)
+  typed_filters vars m filters = all_checked (map (typed_filter vars m) filters)

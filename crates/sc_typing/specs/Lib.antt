@@ -5,4 +5,5 @@ pub mod Names
 pub mod Outcome
 pub mod Policies
 pub mod Public
+pub mod WellTyped
 pub mod Worked

@@ -7,10 +7,13 @@ abbrev pub Checked : Type 0 → Type 0
 Checked A = Result A TypeErr
 
 -- a fault of the first part is one of the whole
+abbrev pub and_then : {A B : Type 0} → Checked A → (A → Checked B) → Checked B
+and_then (Ok a) f = f a
+and_then (Err e) f = Err e
+
 infixl 10 ◌>>=◌
 abbrev pub ◌>>=◌ : {A B : Type 0} → Checked A → (A → Checked B) → Checked B
-Ok a >>= f = f a
-Err e >>= f = Err e
+first >>= f = and_then first f
 
 abbrev pub or_else : {A : Type 0} → Option A → TypeErr → Checked A
 or_else (Some a) e = Ok a

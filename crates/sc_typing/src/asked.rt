@@ -3,12 +3,12 @@
 ghost use Rattle.std.specs.Prelude.{◌≡◌};
 ghost use Rattle.sc_typing.specs.Asked as spec;
 ghost use Rattle.sc_typing.specs.Names.{plain_of};
-ghost use Rattle.sc_typing.specs.Outcome.{Gives};
 
-use crate::names::{field_named, is_principal};
+use crate::names::{field_of_model, is_principal};
 use crate::type_err::TypeErr;
 use sc_schema::{FieldNo, ModelNo, Schema, TBase, TExpr, TSet, TTy};
 use sc_tree::Named;
+use sqlite_items::Boxed;
 
 /// What a set is asked to hold.
 #[derive(Clone, Copy, Debug, PartialEq, Eq)]
@@ -25,7 +25,17 @@ pub struct Typed {
     /// The offset of the first token.
     pub at: u32,
     pub ty: TTy,
-    pub tree: TExpr,
+    pub tree: Boxed<TExpr>,
+}
+
+impl Typed {
+    /// The expression.
+    pub fn into_tree(self) -> Boxed<TExpr>
+        ensures { result ≡ self.tree }
+    {
+        let Typed { tree, .. } = self;
+        tree
+    }
 }
 
 /// A chain of records, and their model.
@@ -34,7 +44,7 @@ pub struct Source {
     /// The offset of the first token, inside the parentheses.
     pub at: u32,
     pub model: ModelNo,
-    pub set: TSet,
+    pub set: Boxed<TSet>,
 }
 
 fn same_base(a: TBase, b: TBase) -> bool
@@ -56,48 +66,6 @@ pub fn same_type(a: TTy, b: TTy) -> bool
         (TTy::Plain(a), TTy::Plain(b)) | (TTy::Opt(a), TTy::Opt(b)) => same_base(a, b),
         (TTy::Set(m), TTy::Set(n)) => m == n,
         _ => false,
-    }
-}
-
-/// What was found, where its place asks for nothing else.
-#[tactic(auto, unfolding(crate::specs::Asked::fits))]
-pub fn fits(found: Typed, asked: Option<TTy>) -> Result<Typed, TypeErr>
-    ensures { result ≡ spec.fits found asked }
-{
-    match asked {
-        None => Ok(found),
-        Some(asked) => {
-            if same_type(found.ty, asked) {
-                Ok(found)
-            } else {
-                Err(TypeErr::WrongType { at: found.at })
-            }
-        }
-    }
-}
-
-/// An expression of this type.
-pub fn of_type(at: u32, ty: TTy, tree: TExpr) -> Typed
-    ensures { result ≡ spec.of_type at ty tree }
-{
-    Typed { at, ty, tree }
-}
-
-/// An expression that is true or false.
-pub fn truth(at: u32, tree: TExpr) -> Typed
-    ensures { result ≡ spec.truth at tree }
-{
-    of_type(at, TTy::Plain(TBase::Bool), tree)
-}
-
-/// `none`, where an option is asked.
-#[tactic(auto, unfolding(crate::specs::Asked::none_of))]
-pub fn none_of(asked: Option<TTy>, at: u32) -> Result<Typed, TypeErr>
-    ensures { result ≡ spec.none_of asked at }
-{
-    match asked {
-        Some(TTy::Opt(base)) => Ok(of_type(at, TTy::Opt(base), TExpr::NoneLit)),
-        None | Some(TTy::Plain(_) | TTy::Set(_)) => Err(TypeErr::WrongType { at }),
     }
 }
 
@@ -169,10 +137,8 @@ pub fn field_of_record(
     ensures { result ≡ spec.field_of_record (plain_of schema.now) of at field.now }
 {
     let model = id_of(of, at)?;
-    match field_named(schema, model, field.name.bytes()) {
-        Some((number, ty)) => Ok((model, number, ty)),
-        None => Err(TypeErr::Unknown { at: field.at }),
-    }
+    let (number, ty) = field_of_model(schema, model, field)?;
+    Ok((model, number, ty))
 }
 
 /// Whether a set that is asked for this content may hold records of the model.

@@ -21,29 +21,13 @@ pub fn left_asked(op: CmpOp) -> Option<TTy>
 }
 
 #[tactic(auto, unfolding(crate::specs::Compared::alike))]
-fn alike(
-    alloc: Global,
-    op: CmpOp,
-    base: TBase,
-    left: TExpr,
-    right: TExpr,
-) -> Result<TExpr, AllocError>
-    ensures { IfOk result (λ tree. tree ≡ spec.alike op base left right) }
+fn alike(op: CmpOp, base: TBase, left: Boxed<TExpr>, right: Boxed<TExpr>) -> TExpr
+    ensures { result ≡ spec.alike op base left right }
 {
-    let left = Boxed::new(alloc, left)?;
-    let right = Boxed::new(alloc, right)?;
-    Ok(match base {
+    match base {
         TBase::Bool => TExpr::Iff(left, right, op),
         TBase::Int | TBase::Text | TBase::Id(_) => TExpr::Eq(left, right, op),
-    })
-}
-
-fn less(alloc: Global, op: CmpOp, low: TExpr, high: TExpr) -> Result<TExpr, AllocError>
-    ensures { IfOk result (λ tree. tree ≡ spec.less op low high) }
-{
-    let low = Boxed::new(alloc, low)?;
-    let high = Boxed::new(alloc, high)?;
-    Ok(TExpr::Less(low, high, op))
+    }
 }
 
 fn negated(alloc: Global, tree: TExpr) -> Result<TExpr, AllocError>
@@ -59,27 +43,18 @@ pub fn compared(
     alloc: Global,
     op: CmpOp,
     base: TBase,
-    left: TExpr,
-    right: TExpr,
+    left: Boxed<TExpr>,
+    right: Boxed<TExpr>,
 ) -> Result<TExpr, AllocError>
     ensures { IfOk result (λ tree. tree ≡ spec.compared op base left right) }
 {
     match op {
-        CmpOp::Eq => alike(alloc, op, base, left, right),
-        CmpOp::Ne => {
-            let tree = alike(alloc, op, base, left, right)?;
-            negated(alloc, tree)
-        }
-        CmpOp::Lt => less(alloc, op, left, right),
-        CmpOp::Le => {
-            let tree = less(alloc, op, right, left)?;
-            negated(alloc, tree)
-        }
-        CmpOp::Gt => less(alloc, op, right, left),
-        CmpOp::Ge => {
-            let tree = less(alloc, op, left, right)?;
-            negated(alloc, tree)
-        }
+        CmpOp::Eq => Ok(alike(op, base, left, right)),
+        CmpOp::Ne => negated(alloc, alike(op, base, left, right)),
+        CmpOp::Lt => Ok(TExpr::Less(left, right, op)),
+        CmpOp::Le => negated(alloc, TExpr::Less(right, left, op)),
+        CmpOp::Gt => Ok(TExpr::Less(right, left, op)),
+        CmpOp::Ge => negated(alloc, TExpr::Less(left, right, op)),
     }
 }
 

@@ -7,22 +7,29 @@
 //! | `vars` | the variables that an expression may use |
 //! | `asked` | what a place asks of an expression or a set |
 //! | `compared` | comparisons and filters |
-//! | `nodes` | typed expressions and sets, of their parts |
+//! | `nodes` | typed expressions, of their typed parts |
+//! | `set_nodes` | typed sets and items, of their typed parts |
+//! | `exprs` | the types of expressions and sets |
 //! | `types` | the types of fields |
+//! | `policies` | policies and initialisers |
 //! | `laws` | laws over the definitions |
 #![tactic(auto)]
 
 mod asked;
 mod compared;
+mod exprs;
 mod laws;
 mod names;
 mod nodes;
+mod policies;
+mod set_nodes;
 mod type_err;
 mod types;
 mod vars;
 
 pub use asked::{Content, Source, Typed};
-pub use laws::worked_types;
+pub use laws::{typed_is_well_typed, worked_types};
+pub use policies::{typed_init, typed_policy};
 pub use type_err::{TypeErr, UsedBy};
 pub use types::typed_type;
 pub use vars::Var;

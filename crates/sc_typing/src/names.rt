@@ -7,8 +7,12 @@ ghost use Rattle.std.specs.Str.{bytes_eq};
 ghost use Rattle.sc_schema.specs.Schema.{is_principal_model};
 ghost use Rattle.sc_typing.specs.Names as spec;
 ghost use Rattle.sc_typing.specs.Names.{plain_of};
+ghost use Rattle.sc_typing.specs.Outcome.{or_else};
+ghost use Rattle.sc_typing.specs.declared.type_err.TypeErr.TheVariants.{Unknown};
 
+use crate::type_err::TypeErr;
 use sc_schema::{FieldInfo, FieldNo, ModelInfo, ModelNo, Schema, StaticInfo, StaticNo, TTy};
+use sc_tree::Named;
 
 /// Whether two names are the same bytes.
 pub fn same_name(a: &[u8], b: &[u8]) -> bool
@@ -64,6 +68,22 @@ pub fn field_named(schema: &Schema, model: ModelNo, name: &[u8]) -> Option<(Fiel
     let model = model_at(schema.models.as_slice(), model)?;
     let field = field_among(model.fields.as_slice(), name)?;
     Some((field.number, field.ty))
+}
+
+/// The same, or that the name is unknown, at its place.
+pub fn field_of_model(
+    schema: &Schema,
+    model: ModelNo,
+    field: &Named,
+) -> Result<(FieldNo, TTy), TypeErr>
+    ensures { result
+        ≡ or_else (spec.field_named (plain_of schema.now) model field.now.name)
+        (Unknown field.now.at) }
+{
+    match field_named(schema, model, field.name.bytes()) {
+        Some(found) => Ok(found),
+        None => Err(TypeErr::Unknown { at: field.at }),
+    }
 }
 
 /// Whether the model is there and marked as principal.

@@ -1,99 +1,227 @@
-//! Typed expressions and sets, of their parts.
+//! Typed expressions, of their typed parts.
 
-ghost use Rattle.std.specs.Prelude.{◌≡◌, IfOk};
+ghost use Rattle.std.specs.Prelude.{◌≡◌, Ok};
+ghost use Rattle.sc_schema.specs.declared.types.TBase.TheVariants as base;
+ghost use Rattle.sc_schema.specs.declared.types.TTy.TheVariants.{Plain, Opt};
 ghost use Rattle.sc_schema.specs.declared.trees.TExpr.TheVariants as t;
-ghost use Rattle.sc_schema.specs.declared.trees.TSet.TheVariants as ts;
+ghost use Rattle.sc_typing.specs.Asked as spec;
+ghost use Rattle.sc_typing.specs.Compared as signs;
+ghost use Rattle.sc_typing.specs.Names as names;
+ghost use Rattle.sc_typing.specs.Names.{plain_of};
+ghost use Rattle.sc_typing.specs.Outcome.{Gives, and_then, or_else};
+ghost use Rattle.sc_typing.specs.declared.type_err.TypeErr.TheVariants.{Unknown};
 
-use sc_schema::{ModelNo, TExpr, TSet};
-use sc_tree::Named;
+use crate::asked::{Typed, base_of, field_of_record, same_type};
+use crate::compared::compared;
+use crate::type_err::TypeErr;
+use crate::vars::{Var, var_named};
+use sc_ast::Txt;
+use sc_schema::{ModelNo, Schema, TBase, TExpr, TSet, TTy};
+use sc_tree::{CmpOp, Named};
 use sqlite_items::Boxed;
-use std::alloc::{AllocError, Global};
+use std::alloc::Global;
 
-/// Two expressions.
-pub type Pair = (Boxed<TExpr>, Boxed<TExpr>);
-
-/// Two sets.
-pub type SetPair = (Boxed<TSet>, Boxed<TSet>);
-
-/// Two expressions, as parts of one.
-pub fn pair(alloc: Global, left: TExpr, right: TExpr) -> Result<Pair, AllocError>
-    ensures { IfOk result (λ parts. parts ≡ (left, right)) }
+/// An expression of this type, where its place asks for nothing else.
+#[tactic(auto, unfolding(crate::specs::Asked::fits))]
+pub fn fit(
+    alloc: Global,
+    asked: Option<TTy>,
+    at: u32,
+    ty: TTy,
+    tree: TExpr,
+) -> Result<Typed, TypeErr>
+    ensures { Gives (spec.fits (spec.of_type at ty tree) asked) result }
 {
-    let left = Boxed::new(alloc, left)?;
-    let right = Boxed::new(alloc, right)?;
-    Ok((left, right))
+    if let Some(asked) = asked
+        && !same_type(ty, asked)
+    {
+        return Err(TypeErr::WrongType { at });
+    }
+    made(alloc, at, ty, tree)
 }
 
-/// Two sets, as parts of one.
-pub fn set_pair(alloc: Global, left: TSet, right: TSet) -> Result<SetPair, AllocError>
-    ensures { IfOk result (λ parts. parts ≡ (left, right)) }
+/// An expression of this type.
+fn made(alloc: Global, at: u32, ty: TTy, tree: TExpr) -> Result<Typed, TypeErr>
+    ensures { Gives (Ok (spec.of_type at ty tree)) result }
 {
-    let left = Boxed::new(alloc, left)?;
-    let right = Boxed::new(alloc, right)?;
-    Ok((left, right))
+    let tree = Boxed::new(alloc, tree)?;
+    Ok(Typed { at, ty, tree })
 }
 
-/// Whether a record of the model is in the set.
-pub fn member(alloc: Global, of: TExpr, model: ModelNo, set: TSet) -> Result<TExpr, AllocError>
-    ensures { IfOk result (λ node. node ≡ t.Member of model set) }
+/// A literal text.
+pub fn text_of(alloc: Global, asked: Option<TTy>, at: u32, text: &Txt) -> Result<Typed, TypeErr>
+    ensures { Gives
+        (spec.fits (spec.of_type at (Plain base.Text) (t.Str text.now)) asked) result }
 {
-    let of = Boxed::new(alloc, of)?;
-    let set = Boxed::new(alloc, set)?;
-    Ok(TExpr::Member(of, model, set))
+    let text = text.copy(alloc)?;
+    fit(alloc, asked, at, TTy::Plain(TBase::Text), TExpr::Str(text))
+}
+
+/// A variable.
+pub fn variable(
+    alloc: Global,
+    vars: &[Var],
+    asked: Option<TTy>,
+    at: u32,
+    x: &Named,
+) -> Result<Typed, TypeErr>
+    ensures { Gives
+        (and_then (or_else (names.var_named vars.now x.now.name) (Unknown x.now.at)) (λ var.
+        spec.fits (spec.of_type at var.1 (t.Var var.0 x.now.name)) asked)) result }
+{
+    let (depth, ty) = var_named(vars, x)?;
+    let name = x.name.copy(alloc)?;
+    fit(alloc, asked, at, ty, TExpr::Var(depth, name))
+}
+
+/// `none`, where an option is asked.
+#[tactic(auto, unfolding(crate::specs::Asked::none_of))]
+pub fn none_of(alloc: Global, asked: Option<TTy>, at: u32) -> Result<Typed, TypeErr>
+    ensures { Gives (spec.none_of asked at) result }
+{
+    match asked {
+        Some(TTy::Opt(base)) => made(alloc, at, TTy::Opt(base), TExpr::NoneLit),
+        None | Some(TTy::Plain(_) | TTy::Set(_)) => Err(TypeErr::WrongType { at }),
+    }
+}
+
+/// `some(e)`.
+pub fn just(alloc: Global, asked: Option<TTy>, at: u32, inner: Typed) -> Result<Typed, TypeErr>
+    ensures { Gives
+        (and_then (spec.base_of inner.ty inner.at) (λ b.
+        spec.fits (spec.of_type at (Opt b) (t.SomeLit inner.tree)) asked)) result }
+{
+    let base = base_of(inner.ty, inner.at)?;
+    fit(
+        alloc,
+        asked,
+        at,
+        TTy::Opt(base),
+        TExpr::SomeLit(inner.into_tree()),
+    )
+}
+
+/// `e.f`.
+pub fn field_of(
+    alloc: Global,
+    schema: &Schema,
+    asked: Option<TTy>,
+    at: u32,
+    of: Typed,
+    field: &Named,
+) -> Result<Typed, TypeErr>
+    ensures { Gives
+        (and_then (spec.field_of_record (plain_of schema.now) of.ty of.at field.now) (λ f.
+        spec.fits (spec.of_type at f.2 (t.Get of.tree f.0 f.1)) asked)) result }
+{
+    let (model, number, ty) = field_of_record(schema, of.ty, of.at, field)?;
+    fit(
+        alloc,
+        asked,
+        at,
+        ty,
+        TExpr::Get(of.into_tree(), model, number),
+    )
+}
+
+/// A comparison of two values of the base type.
+pub fn comparison(
+    alloc: Global,
+    asked: Option<TTy>,
+    at: u32,
+    op: CmpOp,
+    base: TBase,
+    left: Typed,
+    right: Typed,
+) -> Result<Typed, TypeErr>
+    ensures { Gives
+        (spec.fits (spec.truth at (signs.compared op base left.tree right.tree)) asked) result }
+{
+    let tree = compared(alloc, op, base, left.into_tree(), right.into_tree())?;
+    fit(alloc, asked, at, TTy::Plain(TBase::Bool), tree)
+}
+
+/// `e in S`, where the record is of the model.
+pub fn within(
+    alloc: Global,
+    asked: Option<TTy>,
+    at: u32,
+    of: Typed,
+    model: ModelNo,
+    set: Boxed<TSet>,
+) -> Result<Typed, TypeErr>
+    ensures { Gives (spec.fits (spec.truth at (t.Member of.tree model set)) asked) result }
+{
+    let tree = TExpr::Member(of.into_tree(), model, set);
+    fit(alloc, asked, at, TTy::Plain(TBase::Bool), tree)
+}
+
+/// `!e`.
+pub fn negation(alloc: Global, asked: Option<TTy>, at: u32, inner: Typed) -> Result<Typed, TypeErr>
+    ensures { Gives (spec.fits (spec.truth at (t.Not inner.tree)) asked) result }
+{
+    let tree = TExpr::Not(inner.into_tree());
+    fit(alloc, asked, at, TTy::Plain(TBase::Bool), tree)
+}
+
+/// `a && b`.
+pub fn both(
+    alloc: Global,
+    asked: Option<TTy>,
+    at: u32,
+    left: Typed,
+    right: Typed,
+) -> Result<Typed, TypeErr>
+    ensures { Gives (spec.fits (spec.truth at (t.And left.tree right.tree)) asked) result }
+{
+    let tree = TExpr::And(left.into_tree(), right.into_tree());
+    fit(alloc, asked, at, TTy::Plain(TBase::Bool), tree)
+}
+
+/// `a || b`.
+pub fn either(
+    alloc: Global,
+    asked: Option<TTy>,
+    at: u32,
+    left: Typed,
+    right: Typed,
+) -> Result<Typed, TypeErr>
+    ensures { Gives (spec.fits (spec.truth at (t.Or left.tree right.tree)) asked) result }
+{
+    let tree = TExpr::Or(left.into_tree(), right.into_tree());
+    fit(alloc, asked, at, TTy::Plain(TBase::Bool), tree)
 }
 
 /// `if c then a else b`.
-pub fn choice(alloc: Global, c: TExpr, a: TExpr, b: TExpr) -> Result<TExpr, AllocError>
-    ensures { IfOk result (λ node. node ≡ t.IfE c a b) }
+pub fn choice(
+    alloc: Global,
+    at: u32,
+    test: Typed,
+    one: Typed,
+    other: Typed,
+) -> Result<Typed, TypeErr>
+    ensures { Gives
+        (Ok (spec.of_type at one.ty (t.IfE test.tree one.tree other.tree))) result }
 {
-    let c = Boxed::new(alloc, c)?;
-    let (a, b) = pair(alloc, a, b)?;
-    Ok(TExpr::IfE(c, a, b))
+    let ty = one.ty;
+    let tree = TExpr::IfE(test.into_tree(), one.into_tree(), other.into_tree());
+    made(alloc, at, ty, tree)
 }
 
 /// `match e with none -> a | some x -> b`.
-pub fn cases(alloc: Global, e: Boxed<TExpr>, branches: Pair, x: &Named) -> Result<TExpr, AllocError>
-    ensures { IfOk result (λ node. node ≡ t.MatchE e branches.0 x.now.name branches.1) }
-{
-    let (a, b) = branches;
-    let name = x.name.copy(alloc)?;
-    Ok(TExpr::MatchE(e, a, name, b))
-}
-
-/// The same for sets.
-pub fn set_cases(alloc: Global, e: TExpr, branches: SetPair, x: &Named) -> Result<TSet, AllocError>
-    ensures { IfOk result (λ node. node ≡ ts.MatchS e branches.0 x.now.name branches.1) }
-{
-    let (a, b) = branches;
-    let name = x.name.copy(alloc)?;
-    Ok(TSet::MatchS(e, a, name, b))
-}
-
-/// `S.map(x -> e)`, with the model of the source and that of the records.
-pub fn mapped(
+pub fn cases(
     alloc: Global,
-    of: Boxed<TSet>,
-    source: ModelNo,
+    at: u32,
+    of: Typed,
+    none: Typed,
     x: &Named,
-    model: ModelNo,
-    e: TExpr,
-) -> Result<TSet, AllocError>
-    ensures { IfOk result (λ node. node ≡ ts.MapS of source x.now.name model e) }
+    some: Typed,
+) -> Result<Typed, TypeErr>
+    ensures { Gives
+        (Ok (spec.of_type at none.ty (t.MatchE of.tree none.tree x.now.name some.tree))) result }
 {
+    let ty = none.ty;
     let name = x.name.copy(alloc)?;
-    Ok(TSet::MapS(of, source, name, model, e))
-}
-
-/// `S.flat_map(x -> T)`, of the source and the set, with the model of the source.
-pub fn flat_mapped(
-    alloc: Global,
-    parts: SetPair,
-    source: ModelNo,
-    x: &Named,
-) -> Result<TSet, AllocError>
-    ensures { IfOk result (λ node. node ≡ ts.FlatS parts.0 source x.now.name parts.1) }
-{
-    let (of, set) = parts;
-    let name = x.name.copy(alloc)?;
-    Ok(TSet::FlatS(of, source, name, set))
+    let tree = TExpr::MatchE(of.into_tree(), none.into_tree(), name, some.into_tree());
+    made(alloc, at, ty, tree)
 }

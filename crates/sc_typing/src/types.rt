@@ -9,7 +9,8 @@ use crate::type_err::TypeErr;
 use sc_schema::{ModelNo, Schema, TBase, TTy};
 use sc_tree::{Base, Named, Ty};
 
-fn typed_model(schema: &Schema, model: &Named) -> Result<ModelNo, TypeErr>
+/// A model that a type or a chain names.
+pub fn typed_model(schema: &Schema, model: &Named) -> Result<ModelNo, TypeErr>
     ensures { result ≡ spec.typed_model (plain_of schema.now) model.now }
 {
     match model_named(schema, model.name.bytes()) {

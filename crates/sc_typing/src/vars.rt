@@ -6,12 +6,13 @@ ghost use Rattle.std.specs.Str.{bytes_eq};
 ghost use Rattle.sc_typing.specs.Names.{var_named};
 ghost use Rattle.sc_typing.specs.Outcome.{Gives, or_else};
 ghost use Rattle.sc_typing.specs.Asked.{under};
+ghost use Rattle.sc_typing.specs.Policies as spec;
 ghost use Rattle.sc_typing.specs.declared.type_err.TypeErr.TheVariants.{Unknown};
 
 use crate::names::same_name;
 use crate::type_err::TypeErr;
 use sc_ast::Name;
-use sc_schema::TTy;
+use sc_schema::{ModelNo, TBase, TTy};
 use sc_tree::Named;
 use sqlite_items::{Items, at};
 use std::alloc::{AllocError, Global};
@@ -76,4 +77,15 @@ pub fn under(alloc: Global, vars: &[Var], x: &Named, ty: TTy) -> Result<Items<Va
     let name = x.name.copy(alloc)?;
     inner.push(Var { name, ty })?;
     Ok(inner)
+}
+
+/// The variable of a policy or an initialiser, which is a record of the model.
+pub fn record_var(alloc: Global, model: ModelNo, x: &Named) -> Result<Items<Var>, AllocError>
+    ensures { IfOk result (λ vars. vars ≡ spec.record_var model x.now) }
+{
+    let mut vars = Items::new(alloc);
+    let name = x.name.copy(alloc)?;
+    let ty = TTy::Plain(TBase::Id(model));
+    vars.push(Var { name, ty })?;
+    Ok(vars)
 }
