@@ -4,6 +4,8 @@ pub mod Forms
 pub mod Lookups
 pub mod Parts
 pub mod Seen
+pub mod SetSteps
+pub mod Shown
 pub mod Sound
 pub mod Steps
 pub mod WorkedTypes

@@ -1,5 +1,5 @@
 -- What is typed is well typed, where the types of the schema's fields name models that are there.
-use Rattle.std.specs.Prelude.{◌≡◌, ℕ, List, nat_eq, map, Ok, FitsSigned}
+use Rattle.std.specs.Prelude.{◌≡◌, ℕ, nat_eq, Ok, FitsSigned}
 use Rattle.std.specs.Int.{w64}
 use Rattle.std.specs.List.{AllByRecursion, IsDistinct}
 use Rattle.sc_ast.specs.Words.{IsText}

@@ -1,6 +1,6 @@
 //! Typed expressions, of their typed parts.
 
-ghost use Rattle.std.specs.Prelude.{◌≡◌, Ok};
+ghost use Rattle.std.specs.Prelude.{Ok};
 ghost use Rattle.sc_schema.specs.declared.types.TBase.TheVariants as base;
 ghost use Rattle.sc_schema.specs.declared.types.TTy.TheVariants.{Plain, Opt};
 ghost use Rattle.sc_schema.specs.declared.trees.TExpr.TheVariants as t;

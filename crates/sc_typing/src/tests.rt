@@ -3,7 +3,7 @@ ghost use Rattle.std.specs.Prelude.{◌<◌};
 use crate::{TypeErr, typed_init, typed_policy};
 use sc_ast::Name;
 use sc_schema::{FieldInfo, ModelInfo, Schema, StaticInfo, TBase, TPolicy, TTy};
-use sc_tree::{CmpOp, Expr, Init, Item, Named, Policy, SetExpr};
+use sc_tree::{Expr, Init, Item, Named, Policy, SetExpr};
 use sqlite_items::{Boxed, Items};
 use std::alloc::Global;
 use std::rc::Rc;
@@ -92,8 +92,14 @@ fn list(alloc: Global, item: Item, at: u32) -> Result<SetExpr, Fail> {
 }
 
 /// `u -> set`
-fn fun(alloc: Global, set: SetExpr) -> Result<Policy, Fail> {
-    Ok(Policy::Fun(named(alloc, b"u", 0)?, set))
+fn fun(alloc: Global, set: SetExpr) -> Result<Boxed<Policy>, Fail> {
+    let policy = Policy::Fun(named(alloc, b"u", 0)?, set);
+    Ok(Boxed::new(alloc, policy)?)
+}
+
+/// `u -> [item]`
+fn listed(alloc: Global, item: Item) -> Result<Boxed<Policy>, Fail> {
+    fun(alloc, list(alloc, item, 5)?)
 }
 
 /// `match u.boss with none -> 1 | some NAME -> 2`
@@ -104,109 +110,75 @@ fn by_boss(alloc: Global, bytes: &[u8]) -> Result<Expr, Fail> {
     Ok(Expr::MatchE(of, none, named(alloc, bytes, 40)?, some, 5))
 }
 
-#[test]
-fn policies_of_users_and_notes(rt: HostRuntime) -> Result<(), Fail> {
-    let alloc = rt.alloc();
+/// Why a policy on records of the model has no type, if it has none.
+fn fault(alloc: Global, model: u32, policy: &Boxed<Policy>) -> Result<Option<TypeErr>, Fail> {
     let schema = app(alloc)?;
+    Ok(typed_policy(alloc, &schema, model, policy.get()).err())
+}
 
-    let listed = fun(alloc, list(alloc, Item::One(u(alloc, 6)?), 5)?)?;
-    assert_eq!(rt; typed_policy(alloc, &schema, 0, &listed).err(), None);
-    let not_principal = Some(TypeErr::NotPrincipal { at: 6 });
-    assert_eq!(rt;
-        typed_policy(alloc, &schema, 1, &listed).err(),
-        not_principal
-    );
+/// The same of an initialiser of a field of users.
+fn init_fault(alloc: Global, ty: TTy, init: Init) -> Result<Option<TypeErr>, Fail> {
+    let init = Boxed::new(alloc, init)?;
+    let x = Boxed::new(alloc, named(alloc, b"u", 0)?)?;
+    let schema = app(alloc)?;
+    Ok(typed_init(alloc, &schema, 0, ty, x.get(), init.get()).err())
+}
 
-    let visitor = Item::Static(named(alloc, b"Visitor", 6)?);
-    let visited = fun(alloc, list(alloc, visitor, 5)?)?;
-    assert_eq!(rt; typed_policy(alloc, &schema, 1, &visited).err(), None);
-    let nobody_known = Item::Static(named(alloc, b"Auditor", 6)?);
-    let unknown = fun(alloc, list(alloc, nobody_known, 5)?)?;
-    let at_item = Some(TypeErr::Unknown { at: 6 });
-    assert_eq!(rt; typed_policy(alloc, &schema, 0, &unknown).err(), at_item);
-
-    let number = fun(alloc, list(alloc, Item::One(of_u(alloc, b"age", 6)?), 5)?)?;
-    let wrong_type = Some(TypeErr::WrongType { at: 6 });
-    assert_eq!(rt; typed_policy(alloc, &schema, 0, &number).err(), wrong_type);
-
-    // u -> User::Find({}).map(u -> u)
-    let users = Boxed::new(
-        alloc,
-        SetExpr::Find(named(alloc, b"User", 5)?, Items::new(alloc), 5),
-    )?;
-    let mapped = SetExpr::MapS(users, named(alloc, b"u", 24)?, u(alloc, 29)?, 5);
-    let hidden = fun(alloc, mapped)?;
-    let twice = Some(TypeErr::Twice { at: 24 });
-    assert_eq!(rt; typed_policy(alloc, &schema, 0, &hidden).err(), twice);
+#[test]
+fn a_record_is_listed_where_it_is_a_principal(rt: HostRuntime) -> Result<(), Fail> {
+    let alloc = rt.alloc();
+    let policy = listed(alloc, Item::One(u(alloc, 6)?))?;
+    assert_eq!(rt; fault(alloc, 0, &policy)?, None);
+    let not_principal = TypeErr::NotPrincipal { at: 6 };
+    assert_eq!(rt; fault(alloc, 1, &policy)?, Some(not_principal));
     Ok(())
 }
 
 #[test]
-fn initialisers_of_users(rt: HostRuntime) -> Result<(), Fail> {
+fn a_static_is_listed_where_it_is_known(rt: HostRuntime) -> Result<(), Fail> {
     let alloc = rt.alloc();
-    let schema = app(alloc)?;
-    let x = named(alloc, b"u", 0)?;
+    let policy = listed(alloc, Item::Static(named(alloc, b"Visitor", 6)?))?;
+    assert_eq!(rt; fault(alloc, 1, &policy)?, None);
+    let policy = listed(alloc, Item::Static(named(alloc, b"Auditor", 6)?))?;
+    assert_eq!(rt; fault(alloc, 1, &policy)?, Some(TypeErr::Unknown { at: 6 }));
+    Ok(())
+}
 
-    let age = Init::Plain(of_u(alloc, b"age", 5)?);
-    assert_eq!(rt; typed_init(alloc, &schema, 0, INT, &x, &age).err(), None);
-    let unknown = Init::Plain(of_u(alloc, b"nope", 5)?);
-    let at_name = Some(TypeErr::Unknown { at: 7 });
-    assert_eq!(rt;
-        typed_init(alloc, &schema, 0, INT, &x, &unknown).err(),
-        at_name
-    );
-    let email = Init::Plain(of_u(alloc, b"email", 5)?);
-    let at_start = Some(TypeErr::WrongType { at: 5 });
-    assert_eq!(rt;
-        typed_init(alloc, &schema, 0, INT, &x, &email).err(),
-        at_start
-    );
+/// `u -> User::Find({}).map(u -> u)`
+fn hidden(alloc: Global) -> Result<Boxed<Policy>, Fail> {
+    let users = SetExpr::Find(named(alloc, b"User", 5)?, Items::new(alloc), 5);
+    let users = Boxed::new(alloc, users)?;
+    let x = named(alloc, b"u", 24)?;
+    fun(alloc, SetExpr::MapS(users, x, u(alloc, 29)?, 5))
+}
 
-    let by_boss_b = Init::Plain(by_boss(alloc, b"b")?);
-    assert_eq!(rt;
-        typed_init(alloc, &schema, 0, INT, &x, &by_boss_b).err(),
-        None
-    );
-    let by_boss_u = Init::Plain(by_boss(alloc, b"u")?);
-    let twice = Some(TypeErr::Twice { at: 40 });
-    assert_eq!(rt;
-        typed_init(alloc, &schema, 0, INT, &x, &by_boss_u).err(),
-        twice
-    );
+#[test]
+fn a_variable_hides_none(rt: HostRuntime) -> Result<(), Fail> {
+    let alloc = rt.alloc();
+    let policy = hidden(alloc)?;
+    assert_eq!(rt; fault(alloc, 0, &policy)?, Some(TypeErr::Twice { at: 24 }));
+    Ok(())
+}
 
-    // A set of users holds no static principal, and not everyone.
+#[test]
+fn an_initialiser_is_of_the_type(rt: HostRuntime) -> Result<(), Fail> {
+    let alloc = rt.alloc();
+    let age = init_fault(alloc, INT, Init::Plain(of_u(alloc, b"age", 5)?))?;
+    assert_eq!(rt; age, None);
+    let email = init_fault(alloc, INT, Init::Plain(of_u(alloc, b"email", 5)?))?;
+    assert_eq!(rt; email, Some(TypeErr::WrongType { at: 5 }));
+    let hides = init_fault(alloc, INT, Init::Plain(by_boss(alloc, b"u")?))?;
+    assert_eq!(rt; hides, Some(TypeErr::Twice { at: 40 }));
+    Ok(())
+}
+
+#[test]
+fn a_set_of_users_holds_users_alone(rt: HostRuntime) -> Result<(), Fail> {
+    let alloc = rt.alloc();
     let users = TTy::Set(0);
-    let own = Init::OfSet(list(alloc, Item::One(u(alloc, 6)?), 5)?);
-    assert_eq!(rt; typed_init(alloc, &schema, 0, users, &x, &own).err(), None);
-    let visitor = Item::Static(named(alloc, b"Visitor", 6)?);
-    let visited = Init::OfSet(list(alloc, visitor, 5)?);
-    let at_item = Some(TypeErr::WrongType { at: 6 });
-    assert_eq!(rt;
-        typed_init(alloc, &schema, 0, users, &x, &visited).err(),
-        at_item
-    );
-    let everyone = Init::OfSet(SetExpr::Everyone(5, 5));
-    assert_eq!(rt;
-        typed_init(alloc, &schema, 0, users, &x, &everyone).err(),
-        at_start
-    );
-    Ok(())
-}
-
-#[test]
-fn an_order_of_two_types(rt: HostRuntime) -> Result<(), Fail> {
-    let alloc = rt.alloc();
-    let schema = app(alloc)?;
-    let x = named(alloc, b"u", 0)?;
-    // u -> u.age < u.email
-    let left = Boxed::new(alloc, of_u(alloc, b"age", 5)?)?;
-    let right = Boxed::new(alloc, of_u(alloc, b"email", 13)?)?;
-    let init = Init::Plain(Expr::Cmp(CmpOp::Lt, left, right, 5));
-    let bool = TTy::Plain(TBase::Bool);
-    let at_right = Some(TypeErr::WrongType { at: 13 });
-    assert_eq!(rt;
-        typed_init(alloc, &schema, 0, bool, &x, &init).err(),
-        at_right
-    );
+    let own = list(alloc, Item::One(u(alloc, 6)?), 5)?;
+    assert_eq!(rt; init_fault(alloc, users, Init::OfSet(own))?, None);
+    let everyone = init_fault(alloc, users, Init::OfSet(SetExpr::Everyone(5, 5)))?;
+    assert_eq!(rt; everyone, Some(TypeErr::WrongType { at: 5 }));
     Ok(())
 }

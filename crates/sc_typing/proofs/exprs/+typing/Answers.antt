@@ -1,5 +1,5 @@
 -- What is answered of each form, from what is found of its parts.
-use Rattle.std.proofs.Common.{◌≡◌, ◌∙◌, ◌++◌, ◌∷◌, [], arith, get_or, ℤ, w64, SFits, to_z, of_z, ap, rules, sym, refl}
+use Rattle.std.proofs.Common.{◌≡◌, ◌∙◌, ◌++◌, ◌∷◌, [], arith, ℤ, w64, SFits, to_z, of_z, ap, rules, sym, refl}
 use Rattle.std.specs.Prelude.{Ok, Err}
 use Rattle.std.proofs.lemmas.Int.{to_z-of_z}
 use Rattle.sc_tree.specs.declared.exprs.Expr.TheVariants as e
@@ -10,9 +10,10 @@ use Rattle.sc_schema.specs.declared.trees.TFilter.{TFilter}
 use Rattle.sc_schema.specs.declared.trees.TFilter.TheVariants as tf
 use Rattle.sc_typing.specs.Names.{plain_of}
 use Rattle.sc_typing.specs.Outcome.{Checked}
-use Rattle.sc_typing.specs.Exprs.{typed_expr, typed_set, typed_source, typed_item, typed_filter}
+use Rattle.sc_typing.specs.Exprs.{typed_source, typed_item, typed_filter}
 use Rattle.sc_typing.proofs.CheckedLists as lists
 use Rattle.sc_typing.proofs.Forms as form
+use Rattle.sc_typing.proofs.SetSteps as set_step
 use Rattle.sc_typing.proofs.Steps as step
 use Rattle.sc_typing.proofs.exprs.+typing.Goals as goal
 
@@ -204,209 +205,209 @@ typed_expr-returns-in_ok-some-in-MatchE t c =
 
 pub typed_set-returns-in-Everyone : goal.typed_set-returns-in-Everyone
 typed_set-returns-in-Everyone t c =
-    step.SetEveryone_last (plain_of c.args.schema.now) c.args.vars.now c.args.content c.in-Everyone.word c.in-Everyone.field-1 c.args.set.now c.everyone.result c.in-Everyone.is c.everyone.ensures
+    set_step.SetEveryone_last (plain_of c.args.schema.now) c.args.vars.now c.args.content c.in-Everyone.word c.in-Everyone.field-1 c.args.set.now c.everyone.result c.in-Everyone.is c.everyone.ensures
 
 pub typed_set-returns-in-Nobody : goal.typed_set-returns-in-Nobody
 typed_set-returns-in-Nobody t c =
-    step.SetNobody_last (plain_of c.args.schema.now) c.args.vars.now c.args.content c.in-Nobody.field-0 c.args.set.now c.boxed.result c.in-Nobody.is c.boxed.ensures
+    set_step.SetNobody_last (plain_of c.args.schema.now) c.args.vars.now c.args.content c.in-Nobody.field-0 c.args.set.now c.boxed.result c.in-Nobody.is c.boxed.ensures
 
 pub typed_set-returns-in_err-items-in-List : goal.typed_set-returns-in_err-items-in-List
 typed_set-returns-in_err-items-in-List t c =
     let same : c.from_residual.result ≡ Err c.in_err-items-in-List.field-0.0 = search rules in
     rw same
-    (step.SetList_fault0 (plain_of c.args.schema.now) c.args.vars.now c.args.content c.in-List.items c.in-List.field-1 c.args.set.now c.in_err-items-in-List.field-0.0 c.in-List.is (λ ne. cc (c.in_err-items-in-List.ensures ne)))
+    (set_step.SetList_fault0 (plain_of c.args.schema.now) c.args.vars.now c.args.content c.in-List.items c.in-List.field-1 c.args.set.now c.in_err-items-in-List.field-0.0 c.in-List.is (λ ne. cc (c.in_err-items-in-List.ensures ne)))
 
 pub typed_set-returns-in_ok-items-in-List : goal.typed_set-returns-in_ok-items-in-List
 typed_set-returns-in_ok-items-in-List t c =
-    step.SetList_last (plain_of c.args.schema.now) c.args.vars.now c.args.content c.in-List.items c.in-List.field-1 c.args.set.now c.in_ok-items-in-List.items c.boxed-in-List.result c.in-List.is (cc c.in_ok-items-in-List.ensures) c.boxed-in-List.ensures
+    set_step.SetList_last (plain_of c.args.schema.now) c.args.vars.now c.args.content c.in-List.items c.in-List.field-1 c.args.set.now c.in_ok-items-in-List.items c.boxed-in-List.result c.in-List.is (cc c.in_ok-items-in-List.ensures) c.boxed-in-List.ensures
 
 pub typed_set-returns-in_err-left-in-Sum : goal.typed_set-returns-in_err-left-in-Sum
 typed_set-returns-in_err-left-in-Sum t c =
     let same : c.from_residual-in_err-left-in-Sum.result ≡ Err c.in_err-left-in-Sum.field-0.0 = search rules in
     rw same
-    (step.SetSum_fault0 (plain_of c.args.schema.now) c.args.vars.now c.args.content c.in-Sum.a c.in-Sum.b c.in-Sum.field-2 c.args.set.now c.in_err-left-in-Sum.field-0.0 c.in-Sum.is (λ ne. cc (c.in_err-left-in-Sum.ensures ne)))
+    (set_step.SetSum_fault0 (plain_of c.args.schema.now) c.args.vars.now c.args.content c.in-Sum.a c.in-Sum.b c.in-Sum.field-2 c.args.set.now c.in_err-left-in-Sum.field-0.0 c.in-Sum.is (λ ne. cc (c.in_err-left-in-Sum.ensures ne)))
 
 pub typed_set-returns-in_err-right-in-Sum : goal.typed_set-returns-in_err-right-in-Sum
 typed_set-returns-in_err-right-in-Sum t c =
     let same : c.from_residual-in_err-right-in-Sum.result ≡ Err c.in_err-right-in-Sum.field-0.0 = search rules in
     rw same
-    (step.SetSum_fault1 (plain_of c.args.schema.now) c.args.vars.now c.args.content c.in-Sum.a c.in-Sum.b c.in-Sum.field-2 c.args.set.now c.in_ok-left-in-Sum.left c.in_err-right-in-Sum.field-0.0 c.in-Sum.is (cc c.in_ok-left-in-Sum.ensures) (λ ne. cc (c.in_err-right-in-Sum.ensures ne)))
+    (set_step.SetSum_fault1 (plain_of c.args.schema.now) c.args.vars.now c.args.content c.in-Sum.a c.in-Sum.b c.in-Sum.field-2 c.args.set.now c.in_ok-left-in-Sum.left c.in_err-right-in-Sum.field-0.0 c.in-Sum.is (cc c.in_ok-left-in-Sum.ensures) (λ ne. cc (c.in_err-right-in-Sum.ensures ne)))
 
 pub typed_set-returns-in_ok-right-in-Sum : goal.typed_set-returns-in_ok-right-in-Sum
 typed_set-returns-in_ok-right-in-Sum t c =
-    step.SetSum_last (plain_of c.args.schema.now) c.args.vars.now c.args.content c.in-Sum.a c.in-Sum.b c.in-Sum.field-2 c.args.set.now c.in_ok-left-in-Sum.left c.in_ok-right-in-Sum.right c.boxed-in-Sum.result c.in-Sum.is (cc c.in_ok-left-in-Sum.ensures) (cc c.in_ok-right-in-Sum.ensures) c.boxed-in-Sum.ensures
+    set_step.SetSum_last (plain_of c.args.schema.now) c.args.vars.now c.args.content c.in-Sum.a c.in-Sum.b c.in-Sum.field-2 c.args.set.now c.in_ok-left-in-Sum.left c.in_ok-right-in-Sum.right c.boxed-in-Sum.result c.in-Sum.is (cc c.in_ok-left-in-Sum.ensures) (cc c.in_ok-right-in-Sum.ensures) c.boxed-in-Sum.ensures
 
 pub typed_set-returns-in_err-left-in-Less : goal.typed_set-returns-in_err-left-in-Less
 typed_set-returns-in_err-left-in-Less t c =
     let same : c.from_residual-in_err-left-in-Less.result ≡ Err c.in_err-left-in-Less.field-0.0 = search rules in
     rw same
-    (step.SetLess_fault0 (plain_of c.args.schema.now) c.args.vars.now c.args.content c.in-Less.a c.in-Less.b c.in-Less.field-2 c.args.set.now c.in_err-left-in-Less.field-0.0 c.in-Less.is (λ ne. cc (c.in_err-left-in-Less.ensures ne)))
+    (set_step.SetLess_fault0 (plain_of c.args.schema.now) c.args.vars.now c.args.content c.in-Less.a c.in-Less.b c.in-Less.field-2 c.args.set.now c.in_err-left-in-Less.field-0.0 c.in-Less.is (λ ne. cc (c.in_err-left-in-Less.ensures ne)))
 
 pub typed_set-returns-in_err-right-in-Less : goal.typed_set-returns-in_err-right-in-Less
 typed_set-returns-in_err-right-in-Less t c =
     let same : c.from_residual-in_err-right-in-Less.result ≡ Err c.in_err-right-in-Less.field-0.0 = search rules in
     rw same
-    (step.SetLess_fault1 (plain_of c.args.schema.now) c.args.vars.now c.args.content c.in-Less.a c.in-Less.b c.in-Less.field-2 c.args.set.now c.in_ok-left-in-Less.left c.in_err-right-in-Less.field-0.0 c.in-Less.is (cc c.in_ok-left-in-Less.ensures) (λ ne. cc (c.in_err-right-in-Less.ensures ne)))
+    (set_step.SetLess_fault1 (plain_of c.args.schema.now) c.args.vars.now c.args.content c.in-Less.a c.in-Less.b c.in-Less.field-2 c.args.set.now c.in_ok-left-in-Less.left c.in_err-right-in-Less.field-0.0 c.in-Less.is (cc c.in_ok-left-in-Less.ensures) (λ ne. cc (c.in_err-right-in-Less.ensures ne)))
 
 pub typed_set-returns-in_ok-right-in-Less : goal.typed_set-returns-in_ok-right-in-Less
 typed_set-returns-in_ok-right-in-Less t c =
-    step.SetLess_last (plain_of c.args.schema.now) c.args.vars.now c.args.content c.in-Less.a c.in-Less.b c.in-Less.field-2 c.args.set.now c.in_ok-left-in-Less.left c.in_ok-right-in-Less.right c.boxed-in-Less.result c.in-Less.is (cc c.in_ok-left-in-Less.ensures) (cc c.in_ok-right-in-Less.ensures) c.boxed-in-Less.ensures
+    set_step.SetLess_last (plain_of c.args.schema.now) c.args.vars.now c.args.content c.in-Less.a c.in-Less.b c.in-Less.field-2 c.args.set.now c.in_ok-left-in-Less.left c.in_ok-right-in-Less.right c.boxed-in-Less.result c.in-Less.is (cc c.in_ok-left-in-Less.ensures) (cc c.in_ok-right-in-Less.ensures) c.boxed-in-Less.ensures
 
 pub typed_set-returns-in_err-of-in-Find : goal.typed_set-returns-in_err-of-in-Find
 typed_set-returns-in_err-of-in-Find t c =
     let same : c.from_residual-in_err-of-in-Find.result ≡ Err c.in_err-of-in-Find.field-0.0 = search rules in
     rw same
-    (step.SetFind_fault0 (plain_of c.args.schema.now) c.args.vars.now c.args.content c.in-Find.field-0 c.in-Find.field-1 c.in-Find.field-2 c.args.set.now c.in_err-of-in-Find.field-0.0 c.in-Find.is (λ ne. cc (c.in_err-of-in-Find.ensures ne)))
+    (set_step.SetFind_fault0 (plain_of c.args.schema.now) c.args.vars.now c.args.content c.in-Find.field-0 c.in-Find.field-1 c.in-Find.field-2 c.args.set.now c.in_err-of-in-Find.field-0.0 c.in-Find.is (λ ne. cc (c.in_err-of-in-Find.ensures ne)))
 
 pub typed_set-returns-in_ok-of-in-Find : goal.typed_set-returns-in_ok-of-in-Find
 typed_set-returns-in_ok-of-in-Find t c =
-    step.SetFind_last (plain_of c.args.schema.now) c.args.vars.now c.args.content c.in-Find.field-0 c.in-Find.field-1 c.in-Find.field-2 c.args.set.now c.in_ok-of-in-Find.of c.chain.result c.in-Find.is (cc c.in_ok-of-in-Find.ensures) c.chain.ensures
+    set_step.SetFind_last (plain_of c.args.schema.now) c.args.vars.now c.args.content c.in-Find.field-0 c.in-Find.field-1 c.in-Find.field-2 c.args.set.now c.in_ok-of-in-Find.of c.chain.result c.in-Find.is (cc c.in_ok-of-in-Find.ensures) c.chain.ensures
 
 pub typed_set-returns-in_err-of-in-Path : goal.typed_set-returns-in_err-of-in-Path
 typed_set-returns-in_err-of-in-Path t c =
     let same : c.from_residual-in_err-of-in-Path.result ≡ Err c.in_err-of-in-Path.field-0.0 = search rules in
     rw same
-    (step.SetPath_fault0 (plain_of c.args.schema.now) c.args.vars.now c.args.content c.in-Path.field-0 c.in-Path.field-1 c.args.set.now c.in_err-of-in-Path.field-0.0 c.in-Path.is (λ ne. cc (c.in_err-of-in-Path.ensures ne)))
+    (set_step.SetPath_fault0 (plain_of c.args.schema.now) c.args.vars.now c.args.content c.in-Path.field-0 c.in-Path.field-1 c.args.set.now c.in_err-of-in-Path.field-0.0 c.in-Path.is (λ ne. cc (c.in_err-of-in-Path.ensures ne)))
 
 pub typed_set-returns-in_ok-of-in-Path : goal.typed_set-returns-in_ok-of-in-Path
 typed_set-returns-in_ok-of-in-Path t c =
-    step.SetPath_last (plain_of c.args.schema.now) c.args.vars.now c.args.content c.in-Path.field-0 c.in-Path.field-1 c.args.set.now c.in_ok-of-in-Path.of c.chain-in-Path.result c.in-Path.is (cc c.in_ok-of-in-Path.ensures) c.chain-in-Path.ensures
+    set_step.SetPath_last (plain_of c.args.schema.now) c.args.vars.now c.args.content c.in-Path.field-0 c.in-Path.field-1 c.args.set.now c.in_ok-of-in-Path.of c.chain-in-Path.result c.in-Path.is (cc c.in_ok-of-in-Path.ensures) c.chain-in-Path.ensures
 
 pub typed_set-returns-in_err-of-in-MapS : goal.typed_set-returns-in_err-of-in-MapS
 typed_set-returns-in_err-of-in-MapS t c =
     let same : c.from_residual-in_err-of-in-MapS.result ≡ Err c.in_err-of-in-MapS.field-0.0 = search rules in
     rw same
-    (step.SetMapS_fault0 (plain_of c.args.schema.now) c.args.vars.now c.args.content c.in-MapS.field-0 c.in-MapS.field-1 c.in-MapS.field-2 c.in-MapS.field-3 c.args.set.now c.in_err-of-in-MapS.field-0.0 c.in-MapS.is (λ ne. cc (c.in_err-of-in-MapS.ensures ne)))
+    (set_step.SetMapS_fault0 (plain_of c.args.schema.now) c.args.vars.now c.args.content c.in-MapS.field-0 c.in-MapS.field-1 c.in-MapS.field-2 c.in-MapS.field-3 c.args.set.now c.in_err-of-in-MapS.field-0.0 c.in-MapS.is (λ ne. cc (c.in_err-of-in-MapS.ensures ne)))
 
 pub typed_set-returns-in_ok-of-in-MapS : goal.typed_set-returns-in_ok-of-in-MapS
 typed_set-returns-in_ok-of-in-MapS t c =
-    step.SetMapS_last (plain_of c.args.schema.now) c.args.vars.now c.args.content c.in-MapS.field-0 c.in-MapS.field-1 c.in-MapS.field-2 c.in-MapS.field-3 c.args.set.now c.in_ok-of-in-MapS.of c.chain-in-MapS.result c.in-MapS.is (cc c.in_ok-of-in-MapS.ensures) c.chain-in-MapS.ensures
+    set_step.SetMapS_last (plain_of c.args.schema.now) c.args.vars.now c.args.content c.in-MapS.field-0 c.in-MapS.field-1 c.in-MapS.field-2 c.in-MapS.field-3 c.args.set.now c.in_ok-of-in-MapS.of c.chain-in-MapS.result c.in-MapS.is (cc c.in_ok-of-in-MapS.ensures) c.chain-in-MapS.ensures
 
 pub typed_set-returns-in_err-over-in-FlatS : goal.typed_set-returns-in_err-over-in-FlatS
 typed_set-returns-in_err-over-in-FlatS t c =
     let same : c.from_residual-in_err-over-in-FlatS.result ≡ Err c.in_err-over-in-FlatS.field-0.0 = search rules in
     rw same
-    (step.SetFlatS_fault0 (plain_of c.args.schema.now) c.args.vars.now c.args.content c.in-FlatS.of c.in-FlatS.x c.in-FlatS.each c.in-FlatS.field-3 c.args.set.now c.in_err-over-in-FlatS.field-0.0 c.in-FlatS.is (λ ne. cc (c.in_err-over-in-FlatS.ensures ne)))
+    (set_step.SetFlatS_fault0 (plain_of c.args.schema.now) c.args.vars.now c.args.content c.in-FlatS.of c.in-FlatS.x c.in-FlatS.each c.in-FlatS.field-3 c.args.set.now c.in_err-over-in-FlatS.field-0.0 c.in-FlatS.is (λ ne. cc (c.in_err-over-in-FlatS.ensures ne)))
 
 pub typed_set-returns-in_err-inner-in-FlatS : goal.typed_set-returns-in_err-inner-in-FlatS
 typed_set-returns-in_err-inner-in-FlatS t c =
     let same : c.from_residual-in_err-inner-in-FlatS.result ≡ Err c.in_err-inner-in-FlatS.field-0.0 = search rules in
     rw same
-    (step.SetFlatS_fault1 (plain_of c.args.schema.now) c.args.vars.now c.args.content c.in-FlatS.of c.in-FlatS.x c.in-FlatS.each c.in-FlatS.field-3 c.args.set.now c.in_ok-over-in-FlatS.over c.in_err-inner-in-FlatS.field-0.0 c.in-FlatS.is (cc c.in_ok-over-in-FlatS.ensures) (λ ne. cc (c.in_err-inner-in-FlatS.ensures ne)))
+    (set_step.SetFlatS_fault1 (plain_of c.args.schema.now) c.args.vars.now c.args.content c.in-FlatS.of c.in-FlatS.x c.in-FlatS.each c.in-FlatS.field-3 c.args.set.now c.in_ok-over-in-FlatS.over c.in_err-inner-in-FlatS.field-0.0 c.in-FlatS.is (cc c.in_ok-over-in-FlatS.ensures) (λ ne. cc (c.in_err-inner-in-FlatS.ensures ne)))
 
 pub typed_set-returns-in_err-each-in-FlatS : goal.typed_set-returns-in_err-each-in-FlatS
 typed_set-returns-in_err-each-in-FlatS t c =
     let same : c.from_residual-in_err-each-in-FlatS.result ≡ Err c.in_err-each-in-FlatS.field-0.0 = search rules in
     rw same
-    (step.SetFlatS_fault2 (plain_of c.args.schema.now) c.args.vars.now c.args.content c.in-FlatS.of c.in-FlatS.x c.in-FlatS.each c.in-FlatS.field-3 c.args.set.now c.in_ok-over-in-FlatS.over c.in_ok-inner-in-FlatS.inner c.in_err-each-in-FlatS.field-0.0 c.in-FlatS.is (cc c.in_ok-over-in-FlatS.ensures) (cc c.in_ok-inner-in-FlatS.ensures) (λ ne. cc (c.in_err-each-in-FlatS.ensures ne)))
+    (set_step.SetFlatS_fault2 (plain_of c.args.schema.now) c.args.vars.now c.args.content c.in-FlatS.of c.in-FlatS.x c.in-FlatS.each c.in-FlatS.field-3 c.args.set.now c.in_ok-over-in-FlatS.over c.in_ok-inner-in-FlatS.inner c.in_err-each-in-FlatS.field-0.0 c.in-FlatS.is (cc c.in_ok-over-in-FlatS.ensures) (cc c.in_ok-inner-in-FlatS.ensures) (λ ne. cc (c.in_err-each-in-FlatS.ensures ne)))
 
 pub typed_set-returns-in_ok-each-in-FlatS : goal.typed_set-returns-in_ok-each-in-FlatS
 typed_set-returns-in_ok-each-in-FlatS t c =
-    step.SetFlatS_last (plain_of c.args.schema.now) c.args.vars.now c.args.content c.in-FlatS.of c.in-FlatS.x c.in-FlatS.each c.in-FlatS.field-3 c.args.set.now c.in_ok-over-in-FlatS.over c.in_ok-inner-in-FlatS.inner c.in_ok-each-in-FlatS.each c.flat_mapped.result c.in-FlatS.is (cc c.in_ok-over-in-FlatS.ensures) (cc c.in_ok-inner-in-FlatS.ensures) (cc c.in_ok-each-in-FlatS.ensures) c.flat_mapped.ensures
+    set_step.SetFlatS_last (plain_of c.args.schema.now) c.args.vars.now c.args.content c.in-FlatS.of c.in-FlatS.x c.in-FlatS.each c.in-FlatS.field-3 c.args.set.now c.in_ok-over-in-FlatS.over c.in_ok-inner-in-FlatS.inner c.in_ok-each-in-FlatS.each c.flat_mapped.result c.in-FlatS.is (cc c.in_ok-over-in-FlatS.ensures) (cc c.in_ok-inner-in-FlatS.ensures) (cc c.in_ok-each-in-FlatS.ensures) c.flat_mapped.ensures
 
 pub typed_set-returns-in_err-test-in-IfS : goal.typed_set-returns-in_err-test-in-IfS
 typed_set-returns-in_err-test-in-IfS t c =
     let same : c.from_residual-in_err-test-in-IfS.result ≡ Err c.in_err-test-in-IfS.field-0.0 = search rules in
     rw same
-    (step.SetIfS_fault0 (plain_of c.args.schema.now) c.args.vars.now c.args.content c.in-IfS.c c.in-IfS.a c.in-IfS.b c.in-IfS.field-3 c.args.set.now c.in_err-test-in-IfS.field-0.0 c.in-IfS.is (λ ne. cc (c.in_err-test-in-IfS.ensures ne)))
+    (set_step.SetIfS_fault0 (plain_of c.args.schema.now) c.args.vars.now c.args.content c.in-IfS.c c.in-IfS.a c.in-IfS.b c.in-IfS.field-3 c.args.set.now c.in_err-test-in-IfS.field-0.0 c.in-IfS.is (λ ne. cc (c.in_err-test-in-IfS.ensures ne)))
 
 pub typed_set-returns-in_err-one-in-IfS : goal.typed_set-returns-in_err-one-in-IfS
 typed_set-returns-in_err-one-in-IfS t c =
     let same : c.from_residual-in_err-one-in-IfS.result ≡ Err c.in_err-one-in-IfS.field-0.0 = search rules in
     rw same
-    (step.SetIfS_fault1 (plain_of c.args.schema.now) c.args.vars.now c.args.content c.in-IfS.c c.in-IfS.a c.in-IfS.b c.in-IfS.field-3 c.args.set.now c.in_ok-test-in-IfS.test c.in_err-one-in-IfS.field-0.0 c.in-IfS.is (cc c.in_ok-test-in-IfS.ensures) (λ ne. cc (c.in_err-one-in-IfS.ensures ne)))
+    (set_step.SetIfS_fault1 (plain_of c.args.schema.now) c.args.vars.now c.args.content c.in-IfS.c c.in-IfS.a c.in-IfS.b c.in-IfS.field-3 c.args.set.now c.in_ok-test-in-IfS.test c.in_err-one-in-IfS.field-0.0 c.in-IfS.is (cc c.in_ok-test-in-IfS.ensures) (λ ne. cc (c.in_err-one-in-IfS.ensures ne)))
 
 pub typed_set-returns-in_err-other-in-IfS : goal.typed_set-returns-in_err-other-in-IfS
 typed_set-returns-in_err-other-in-IfS t c =
     let same : c.from_residual-in_err-other-in-IfS.result ≡ Err c.in_err-other-in-IfS.field-0.0 = search rules in
     rw same
-    (step.SetIfS_fault2 (plain_of c.args.schema.now) c.args.vars.now c.args.content c.in-IfS.c c.in-IfS.a c.in-IfS.b c.in-IfS.field-3 c.args.set.now c.in_ok-test-in-IfS.test c.in_ok-one-in-IfS.one c.in_err-other-in-IfS.field-0.0 c.in-IfS.is (cc c.in_ok-test-in-IfS.ensures) (cc c.in_ok-one-in-IfS.ensures) (λ ne. cc (c.in_err-other-in-IfS.ensures ne)))
+    (set_step.SetIfS_fault2 (plain_of c.args.schema.now) c.args.vars.now c.args.content c.in-IfS.c c.in-IfS.a c.in-IfS.b c.in-IfS.field-3 c.args.set.now c.in_ok-test-in-IfS.test c.in_ok-one-in-IfS.one c.in_err-other-in-IfS.field-0.0 c.in-IfS.is (cc c.in_ok-test-in-IfS.ensures) (cc c.in_ok-one-in-IfS.ensures) (λ ne. cc (c.in_err-other-in-IfS.ensures ne)))
 
 pub typed_set-returns-in_ok-other-in-IfS : goal.typed_set-returns-in_ok-other-in-IfS
 typed_set-returns-in_ok-other-in-IfS t c =
-    step.SetIfS_last (plain_of c.args.schema.now) c.args.vars.now c.args.content c.in-IfS.c c.in-IfS.a c.in-IfS.b c.in-IfS.field-3 c.args.set.now c.in_ok-test-in-IfS.test c.in_ok-one-in-IfS.one c.in_ok-other-in-IfS.other c.choice_of_sets.result c.in-IfS.is (cc c.in_ok-test-in-IfS.ensures) (cc c.in_ok-one-in-IfS.ensures) (cc c.in_ok-other-in-IfS.ensures) c.choice_of_sets.ensures
+    set_step.SetIfS_last (plain_of c.args.schema.now) c.args.vars.now c.args.content c.in-IfS.c c.in-IfS.a c.in-IfS.b c.in-IfS.field-3 c.args.set.now c.in_ok-test-in-IfS.test c.in_ok-one-in-IfS.one c.in_ok-other-in-IfS.other c.choice_of_sets.result c.in-IfS.is (cc c.in_ok-test-in-IfS.ensures) (cc c.in_ok-one-in-IfS.ensures) (cc c.in_ok-other-in-IfS.ensures) c.choice_of_sets.ensures
 
 pub typed_set-returns-in_err-of-in-MatchS : goal.typed_set-returns-in_err-of-in-MatchS
 typed_set-returns-in_err-of-in-MatchS t c =
     let same : c.from_residual-in_err-of-in-MatchS.result ≡ Err c.in_err-of-in-MatchS.field-0.0 = search rules in
     rw same
-    (step.SetMatchS_fault0 (plain_of c.args.schema.now) c.args.vars.now c.args.content c.in-MatchS.e c.in-MatchS.a c.in-MatchS.x c.in-MatchS.b c.in-MatchS.field-4 c.args.set.now c.in_err-of-in-MatchS.field-0.0 c.in-MatchS.is (λ ne. cc (c.in_err-of-in-MatchS.ensures ne)))
+    (set_step.SetMatchS_fault0 (plain_of c.args.schema.now) c.args.vars.now c.args.content c.in-MatchS.e c.in-MatchS.a c.in-MatchS.x c.in-MatchS.b c.in-MatchS.field-4 c.args.set.now c.in_err-of-in-MatchS.field-0.0 c.in-MatchS.is (λ ne. cc (c.in_err-of-in-MatchS.ensures ne)))
 
 pub typed_set-returns-in_err-inside-in-MatchS : goal.typed_set-returns-in_err-inside-in-MatchS
 typed_set-returns-in_err-inside-in-MatchS t c =
     let same : c.from_residual-in_err-inside-in-MatchS.result ≡ Err c.in_err-inside-in-MatchS.field-0.0 = search rules in
     rw same
-    (step.SetMatchS_fault1 (plain_of c.args.schema.now) c.args.vars.now c.args.content c.in-MatchS.e c.in-MatchS.a c.in-MatchS.x c.in-MatchS.b c.in-MatchS.field-4 c.args.set.now c.in_ok-of-in-MatchS.of c.in_err-inside-in-MatchS.field-0.0 c.in-MatchS.is (cc c.in_ok-of-in-MatchS.ensures) (λ ne. cc c.in_err-inside-in-MatchS.ensures))
+    (set_step.SetMatchS_fault1 (plain_of c.args.schema.now) c.args.vars.now c.args.content c.in-MatchS.e c.in-MatchS.a c.in-MatchS.x c.in-MatchS.b c.in-MatchS.field-4 c.args.set.now c.in_ok-of-in-MatchS.of c.in_err-inside-in-MatchS.field-0.0 c.in-MatchS.is (cc c.in_ok-of-in-MatchS.ensures) (λ ne. cc c.in_err-inside-in-MatchS.ensures))
 
 pub typed_set-returns-in_err-none-in-MatchS : goal.typed_set-returns-in_err-none-in-MatchS
 typed_set-returns-in_err-none-in-MatchS t c =
     let same : c.from_residual-in_err-none-in-MatchS.result ≡ Err c.in_err-none-in-MatchS.field-0.0 = search rules in
     rw same
-    (step.SetMatchS_fault2 (plain_of c.args.schema.now) c.args.vars.now c.args.content c.in-MatchS.e c.in-MatchS.a c.in-MatchS.x c.in-MatchS.b c.in-MatchS.field-4 c.args.set.now c.in_ok-of-in-MatchS.of c.in_ok-inside-in-MatchS.inside c.in_err-none-in-MatchS.field-0.0 c.in-MatchS.is (cc c.in_ok-of-in-MatchS.ensures) (cc c.in_ok-inside-in-MatchS.ensures) (λ ne. cc (c.in_err-none-in-MatchS.ensures ne)))
+    (set_step.SetMatchS_fault2 (plain_of c.args.schema.now) c.args.vars.now c.args.content c.in-MatchS.e c.in-MatchS.a c.in-MatchS.x c.in-MatchS.b c.in-MatchS.field-4 c.args.set.now c.in_ok-of-in-MatchS.of c.in_ok-inside-in-MatchS.inside c.in_err-none-in-MatchS.field-0.0 c.in-MatchS.is (cc c.in_ok-of-in-MatchS.ensures) (cc c.in_ok-inside-in-MatchS.ensures) (λ ne. cc (c.in_err-none-in-MatchS.ensures ne)))
 
 pub typed_set-returns-in_err-inner-in-MatchS : goal.typed_set-returns-in_err-inner-in-MatchS
 typed_set-returns-in_err-inner-in-MatchS t c =
     let same : c.from_residual-in_err-inner-in-MatchS.result ≡ Err c.in_err-inner-in-MatchS.field-0.0 = search rules in
     rw same
-    (step.SetMatchS_fault3 (plain_of c.args.schema.now) c.args.vars.now c.args.content c.in-MatchS.e c.in-MatchS.a c.in-MatchS.x c.in-MatchS.b c.in-MatchS.field-4 c.args.set.now c.in_ok-of-in-MatchS.of c.in_ok-inside-in-MatchS.inside c.in_ok-none-in-MatchS.none c.in_err-inner-in-MatchS.field-0.0 c.in-MatchS.is (cc c.in_ok-of-in-MatchS.ensures) (cc c.in_ok-inside-in-MatchS.ensures) (cc c.in_ok-none-in-MatchS.ensures) (λ ne. cc (c.in_err-inner-in-MatchS.ensures ne)))
+    (set_step.SetMatchS_fault3 (plain_of c.args.schema.now) c.args.vars.now c.args.content c.in-MatchS.e c.in-MatchS.a c.in-MatchS.x c.in-MatchS.b c.in-MatchS.field-4 c.args.set.now c.in_ok-of-in-MatchS.of c.in_ok-inside-in-MatchS.inside c.in_ok-none-in-MatchS.none c.in_err-inner-in-MatchS.field-0.0 c.in-MatchS.is (cc c.in_ok-of-in-MatchS.ensures) (cc c.in_ok-inside-in-MatchS.ensures) (cc c.in_ok-none-in-MatchS.ensures) (λ ne. cc (c.in_err-inner-in-MatchS.ensures ne)))
 
 pub typed_set-returns-in_err-some-in-MatchS : goal.typed_set-returns-in_err-some-in-MatchS
 typed_set-returns-in_err-some-in-MatchS t c =
     let same : c.from_residual-in_err-some-in-MatchS.result ≡ Err c.in_err-some-in-MatchS.field-0.0 = search rules in
     rw same
-    (step.SetMatchS_fault4 (plain_of c.args.schema.now) c.args.vars.now c.args.content c.in-MatchS.e c.in-MatchS.a c.in-MatchS.x c.in-MatchS.b c.in-MatchS.field-4 c.args.set.now c.in_ok-of-in-MatchS.of c.in_ok-inside-in-MatchS.inside c.in_ok-none-in-MatchS.none c.in_ok-inner-in-MatchS.inner c.in_err-some-in-MatchS.field-0.0 c.in-MatchS.is (cc c.in_ok-of-in-MatchS.ensures) (cc c.in_ok-inside-in-MatchS.ensures) (cc c.in_ok-none-in-MatchS.ensures) (cc c.in_ok-inner-in-MatchS.ensures) (λ ne. cc (c.in_err-some-in-MatchS.ensures ne)))
+    (set_step.SetMatchS_fault4 (plain_of c.args.schema.now) c.args.vars.now c.args.content c.in-MatchS.e c.in-MatchS.a c.in-MatchS.x c.in-MatchS.b c.in-MatchS.field-4 c.args.set.now c.in_ok-of-in-MatchS.of c.in_ok-inside-in-MatchS.inside c.in_ok-none-in-MatchS.none c.in_ok-inner-in-MatchS.inner c.in_err-some-in-MatchS.field-0.0 c.in-MatchS.is (cc c.in_ok-of-in-MatchS.ensures) (cc c.in_ok-inside-in-MatchS.ensures) (cc c.in_ok-none-in-MatchS.ensures) (cc c.in_ok-inner-in-MatchS.ensures) (λ ne. cc (c.in_err-some-in-MatchS.ensures ne)))
 
 pub typed_set-returns-in_ok-some-in-MatchS : goal.typed_set-returns-in_ok-some-in-MatchS
 typed_set-returns-in_ok-some-in-MatchS t c =
-    step.SetMatchS_last (plain_of c.args.schema.now) c.args.vars.now c.args.content c.in-MatchS.e c.in-MatchS.a c.in-MatchS.x c.in-MatchS.b c.in-MatchS.field-4 c.args.set.now c.in_ok-of-in-MatchS.of c.in_ok-inside-in-MatchS.inside c.in_ok-none-in-MatchS.none c.in_ok-inner-in-MatchS.inner c.in_ok-some-in-MatchS.some c.set_cases.result c.in-MatchS.is (cc c.in_ok-of-in-MatchS.ensures) (cc c.in_ok-inside-in-MatchS.ensures) (cc c.in_ok-none-in-MatchS.ensures) (cc c.in_ok-inner-in-MatchS.ensures) (cc c.in_ok-some-in-MatchS.ensures) c.set_cases.ensures
+    set_step.SetMatchS_last (plain_of c.args.schema.now) c.args.vars.now c.args.content c.in-MatchS.e c.in-MatchS.a c.in-MatchS.x c.in-MatchS.b c.in-MatchS.field-4 c.args.set.now c.in_ok-of-in-MatchS.of c.in_ok-inside-in-MatchS.inside c.in_ok-none-in-MatchS.none c.in_ok-inner-in-MatchS.inner c.in_ok-some-in-MatchS.some c.set_cases.result c.in-MatchS.is (cc c.in_ok-of-in-MatchS.ensures) (cc c.in_ok-inside-in-MatchS.ensures) (cc c.in_ok-none-in-MatchS.ensures) (cc c.in_ok-inner-in-MatchS.ensures) (cc c.in_ok-some-in-MatchS.ensures) c.set_cases.ensures
 
 pub typed_source-returns-in_err-number-in-Find : goal.typed_source-returns-in_err-number-in-Find
 typed_source-returns-in_err-number-in-Find t c =
     let same : c.from_residual.result ≡ Err c.in_err-number-in-Find.field-0.0 = search rules in
     rw same
-    (step.SourceFind_fault0 (plain_of c.args.schema.now) c.args.vars.now c.in-Find.model c.in-Find.filters c.in-Find.field-2 c.args.set.now c.in_err-number-in-Find.field-0.0 c.in-Find.is (λ ne. cc c.in_err-number-in-Find.ensures))
+    (set_step.SourceFind_fault0 (plain_of c.args.schema.now) c.args.vars.now c.in-Find.model c.in-Find.filters c.in-Find.field-2 c.args.set.now c.in_err-number-in-Find.field-0.0 c.in-Find.is (λ ne. cc c.in_err-number-in-Find.ensures))
 
 pub typed_source-returns-in_err-filters-in-Find : goal.typed_source-returns-in_err-filters-in-Find
 typed_source-returns-in_err-filters-in-Find t c =
     let same : c.from_residual-in_err-filters-in-Find.result ≡ Err c.in_err-filters-in-Find.field-0.0 = search rules in
     rw same
-    (step.SourceFind_fault1 (plain_of c.args.schema.now) c.args.vars.now c.in-Find.model c.in-Find.filters c.in-Find.field-2 c.args.set.now c.in_ok-number-in-Find.number c.in_err-filters-in-Find.field-0.0 c.in-Find.is (cc c.in_ok-number-in-Find.ensures) (λ ne. cc (c.in_err-filters-in-Find.ensures ne)))
+    (set_step.SourceFind_fault1 (plain_of c.args.schema.now) c.args.vars.now c.in-Find.model c.in-Find.filters c.in-Find.field-2 c.args.set.now c.in_ok-number-in-Find.number c.in_err-filters-in-Find.field-0.0 c.in-Find.is (cc c.in_ok-number-in-Find.ensures) (λ ne. cc (c.in_err-filters-in-Find.ensures ne)))
 
 pub typed_source-returns-in_ok-filters-in-Find : goal.typed_source-returns-in_ok-filters-in-Find
 typed_source-returns-in_ok-filters-in-Find t c =
-    step.SourceFind_last (plain_of c.args.schema.now) c.args.vars.now c.in-Find.model c.in-Find.filters c.in-Find.field-2 c.args.set.now c.in_ok-number-in-Find.number c.in_ok-filters-in-Find.filters c.found.result c.in-Find.is (cc c.in_ok-number-in-Find.ensures) (cc c.in_ok-filters-in-Find.ensures) c.found.ensures
+    set_step.SourceFind_last (plain_of c.args.schema.now) c.args.vars.now c.in-Find.model c.in-Find.filters c.in-Find.field-2 c.args.set.now c.in_ok-number-in-Find.number c.in_ok-filters-in-Find.filters c.found.result c.in-Find.is (cc c.in_ok-number-in-Find.ensures) (cc c.in_ok-filters-in-Find.ensures) c.found.ensures
 
 pub typed_source-returns-in_err-of-in-Path : goal.typed_source-returns-in_err-of-in-Path
 typed_source-returns-in_err-of-in-Path t c =
     let same : c.from_residual-in_err-of-in-Path.result ≡ Err c.in_err-of-in-Path.field-0.0 = search rules in
     rw same
-    (step.SourcePath_fault0 (plain_of c.args.schema.now) c.args.vars.now c.in-Path.e c.in-Path.field-1 c.args.set.now c.in_err-of-in-Path.field-0.0 c.in-Path.is (λ ne. cc (c.in_err-of-in-Path.ensures ne)))
+    (set_step.SourcePath_fault0 (plain_of c.args.schema.now) c.args.vars.now c.in-Path.e c.in-Path.field-1 c.args.set.now c.in_err-of-in-Path.field-0.0 c.in-Path.is (λ ne. cc (c.in_err-of-in-Path.ensures ne)))
 
 pub typed_source-returns-in_ok-of-in-Path : goal.typed_source-returns-in_ok-of-in-Path
 typed_source-returns-in_ok-of-in-Path t c =
-    step.SourcePath_last (plain_of c.args.schema.now) c.args.vars.now c.in-Path.e c.in-Path.field-1 c.args.set.now c.in_ok-of-in-Path.of c.path.result c.in-Path.is (cc c.in_ok-of-in-Path.ensures) c.path.ensures
+    set_step.SourcePath_last (plain_of c.args.schema.now) c.args.vars.now c.in-Path.e c.in-Path.field-1 c.args.set.now c.in_ok-of-in-Path.of c.path.result c.in-Path.is (cc c.in_ok-of-in-Path.ensures) c.path.ensures
 
 pub typed_source-returns-in_err-over-in-MapS : goal.typed_source-returns-in_err-over-in-MapS
 typed_source-returns-in_err-over-in-MapS t c =
     let same : c.from_residual-in_err-over-in-MapS.result ≡ Err c.in_err-over-in-MapS.field-0.0 = search rules in
     rw same
-    (step.SourceMapS_fault0 (plain_of c.args.schema.now) c.args.vars.now c.in-MapS.of c.in-MapS.x c.in-MapS.e c.in-MapS.field-3 c.args.set.now c.in_err-over-in-MapS.field-0.0 c.in-MapS.is (λ ne. cc (c.in_err-over-in-MapS.ensures ne)))
+    (set_step.SourceMapS_fault0 (plain_of c.args.schema.now) c.args.vars.now c.in-MapS.of c.in-MapS.x c.in-MapS.e c.in-MapS.field-3 c.args.set.now c.in_err-over-in-MapS.field-0.0 c.in-MapS.is (λ ne. cc (c.in_err-over-in-MapS.ensures ne)))
 
 pub typed_source-returns-in_err-inner-in-MapS : goal.typed_source-returns-in_err-inner-in-MapS
 typed_source-returns-in_err-inner-in-MapS t c =
     let same : c.from_residual-in_err-inner-in-MapS.result ≡ Err c.in_err-inner-in-MapS.field-0.0 = search rules in
     rw same
-    (step.SourceMapS_fault1 (plain_of c.args.schema.now) c.args.vars.now c.in-MapS.of c.in-MapS.x c.in-MapS.e c.in-MapS.field-3 c.args.set.now c.in_ok-over-in-MapS.over c.in_err-inner-in-MapS.field-0.0 c.in-MapS.is (cc c.in_ok-over-in-MapS.ensures) (λ ne. cc (c.in_err-inner-in-MapS.ensures ne)))
+    (set_step.SourceMapS_fault1 (plain_of c.args.schema.now) c.args.vars.now c.in-MapS.of c.in-MapS.x c.in-MapS.e c.in-MapS.field-3 c.args.set.now c.in_ok-over-in-MapS.over c.in_err-inner-in-MapS.field-0.0 c.in-MapS.is (cc c.in_ok-over-in-MapS.ensures) (λ ne. cc (c.in_err-inner-in-MapS.ensures ne)))
 
 pub typed_source-returns-in_err-each-in-MapS : goal.typed_source-returns-in_err-each-in-MapS
 typed_source-returns-in_err-each-in-MapS t c =
     let same : c.from_residual-in_err-each-in-MapS.result ≡ Err c.in_err-each-in-MapS.field-0.0 = search rules in
     rw same
-    (step.SourceMapS_fault2 (plain_of c.args.schema.now) c.args.vars.now c.in-MapS.of c.in-MapS.x c.in-MapS.e c.in-MapS.field-3 c.args.set.now c.in_ok-over-in-MapS.over c.in_ok-inner-in-MapS.inner c.in_err-each-in-MapS.field-0.0 c.in-MapS.is (cc c.in_ok-over-in-MapS.ensures) (cc c.in_ok-inner-in-MapS.ensures) (λ ne. cc (c.in_err-each-in-MapS.ensures ne)))
+    (set_step.SourceMapS_fault2 (plain_of c.args.schema.now) c.args.vars.now c.in-MapS.of c.in-MapS.x c.in-MapS.e c.in-MapS.field-3 c.args.set.now c.in_ok-over-in-MapS.over c.in_ok-inner-in-MapS.inner c.in_err-each-in-MapS.field-0.0 c.in-MapS.is (cc c.in_ok-over-in-MapS.ensures) (cc c.in_ok-inner-in-MapS.ensures) (λ ne. cc (c.in_err-each-in-MapS.ensures ne)))
 
 pub typed_source-returns-in_ok-each-in-MapS : goal.typed_source-returns-in_ok-each-in-MapS
 typed_source-returns-in_ok-each-in-MapS t c =
-    step.SourceMapS_last (plain_of c.args.schema.now) c.args.vars.now c.in-MapS.of c.in-MapS.x c.in-MapS.e c.in-MapS.field-3 c.args.set.now c.in_ok-over-in-MapS.over c.in_ok-inner-in-MapS.inner c.in_ok-each-in-MapS.each c.mapped.result c.in-MapS.is (cc c.in_ok-over-in-MapS.ensures) (cc c.in_ok-inner-in-MapS.ensures) (cc c.in_ok-each-in-MapS.ensures) c.mapped.ensures
+    set_step.SourceMapS_last (plain_of c.args.schema.now) c.args.vars.now c.in-MapS.of c.in-MapS.x c.in-MapS.e c.in-MapS.field-3 c.args.set.now c.in_ok-over-in-MapS.over c.in_ok-inner-in-MapS.inner c.in_ok-each-in-MapS.each c.mapped.result c.in-MapS.is (cc c.in_ok-over-in-MapS.ensures) (cc c.in_ok-inner-in-MapS.ensures) (cc c.in_ok-each-in-MapS.ensures) c.mapped.ensures
 
 pub typed_source-returns-in-Everyone : goal.typed_source-returns-in-Everyone
 typed_source-returns-in-Everyone t c =
@@ -444,39 +445,39 @@ pub typed_item-returns-in_err-of-in-One : goal.typed_item-returns-in_err-of-in-O
 typed_item-returns-in_err-of-in-One t c =
     let same : c.from_residual.result ≡ Err c.in_err-of-in-One.field-0.0 = search rules in
     rw same
-    (step.ItemOne_fault0 (plain_of c.args.schema.now) c.args.vars.now c.args.content c.in-One.e c.args.item.now c.in_err-of-in-One.field-0.0 c.in-One.is (λ ne. cc (c.in_err-of-in-One.ensures ne)))
+    (set_step.ItemOne_fault0 (plain_of c.args.schema.now) c.args.vars.now c.args.content c.in-One.e c.args.item.now c.in_err-of-in-One.field-0.0 c.in-One.is (λ ne. cc (c.in_err-of-in-One.ensures ne)))
 
 pub typed_item-returns-in_ok-of-in-One : goal.typed_item-returns-in_ok-of-in-One
 typed_item-returns-in_ok-of-in-One t c =
-    step.ItemOne_last (plain_of c.args.schema.now) c.args.vars.now c.args.content c.in-One.e c.args.item.now c.in_ok-of-in-One.of c.listed_record.result c.in-One.is (cc c.in_ok-of-in-One.ensures)
+    set_step.ItemOne_last (plain_of c.args.schema.now) c.args.vars.now c.args.content c.in-One.e c.args.item.now c.in_ok-of-in-One.of c.listed_record.result c.in-One.is (cc c.in_ok-of-in-One.ensures)
     (step.is_given _ _ c.listed_record.ensures)
 
 pub typed_item-returns-in-Static : goal.typed_item-returns-in-Static
 typed_item-returns-in-Static t c =
-    step.ItemStatic_last (plain_of c.args.schema.now) c.args.vars.now c.args.content c.in-Static.x c.args.item.now c.listed_static.result c.in-Static.is (step.is_given _ _ c.listed_static.ensures)
+    set_step.ItemStatic_last (plain_of c.args.schema.now) c.args.vars.now c.args.content c.in-Static.x c.args.item.now c.listed_static.result c.in-Static.is (step.is_given _ _ c.listed_static.ensures)
 
 pub typed_filter-returns-in_err-field : goal.typed_filter-returns-in_err-field
 typed_filter-returns-in_err-field t c =
     let same : c.from_residual.result ≡ Err c.in_err-field.field-0.0 = search rules in
     rw same
-    (step.Filter_fault0 (plain_of c.args.schema.now) c.args.vars.now c.args.model c.args.filter.now c.in_err-field.field-0.0 (λ ne. cc c.in_err-field.ensures))
+    (set_step.Filter_fault0 (plain_of c.args.schema.now) c.args.vars.now c.args.model c.args.filter.now c.in_err-field.field-0.0 (λ ne. cc c.in_err-field.ensures))
 
 pub typed_filter-returns-in_err-asked : goal.typed_filter-returns-in_err-asked
 typed_filter-returns-in_err-asked t c =
     let same : c.from_residual-in_err-asked.result ≡ Err c.in_err-asked.field-0.0 = search rules in
     rw same
-    (step.Filter_fault1 (plain_of c.args.schema.now) c.args.vars.now c.args.model c.args.filter.now (c.in_ok-field.field, c.in_ok-field.ty) c.in_err-asked.field-0.0 (cc c.in_ok-field.ensures) (λ ne. cc c.in_err-asked.ensures))
+    (set_step.Filter_fault1 (plain_of c.args.schema.now) c.args.vars.now c.args.model c.args.filter.now (c.in_ok-field.field, c.in_ok-field.ty) c.in_err-asked.field-0.0 (cc c.in_ok-field.ensures) (λ ne. cc c.in_err-asked.ensures))
 
 pub typed_filter-returns-in_err-value : goal.typed_filter-returns-in_err-value
 typed_filter-returns-in_err-value t c =
     let same : c.from_residual-in_err-value.result ≡ Err c.in_err-value.field-0.0 = search rules in
     rw same
-    (step.Filter_fault2 (plain_of c.args.schema.now) c.args.vars.now c.args.model c.args.filter.now (c.in_ok-field.field, c.in_ok-field.ty) c.in_ok-asked.asked c.in_err-value.field-0.0 (cc c.in_ok-field.ensures) (cc c.in_ok-asked.ensures) (λ ne. cc (c.in_err-value.ensures ne)))
+    (set_step.Filter_fault2 (plain_of c.args.schema.now) c.args.vars.now c.args.model c.args.filter.now (c.in_ok-field.field, c.in_ok-field.ty) c.in_ok-asked.asked c.in_err-value.field-0.0 (cc c.in_ok-field.ensures) (cc c.in_ok-asked.ensures) (λ ne. cc (c.in_err-value.ensures ne)))
 
 pub typed_filter-returns : goal.typed_filter-returns
 typed_filter-returns t c =
     let whole : typed_filter (plain_of c.args.schema.now) c.args.vars.now c.args.model c.args.filter.now ≡ Ok (tf.Test c.in_ok-field.field c.args.filter.now.op c.in_ok-value.value.tree)
-    = step.Filter_last (plain_of c.args.schema.now) c.args.vars.now c.args.model c.args.filter.now (c.in_ok-field.field, c.in_ok-field.ty) c.in_ok-asked.asked c.in_ok-value.value (Ok (tf.Test c.in_ok-field.field c.args.filter.now.op c.in_ok-value.value.tree)) (cc c.in_ok-field.ensures) (cc c.in_ok-asked.ensures) (cc c.in_ok-value.ensures) refl in
+    = set_step.Filter_last (plain_of c.args.schema.now) c.args.vars.now c.args.model c.args.filter.now (c.in_ok-field.field, c.in_ok-field.ty) c.in_ok-asked.asked c.in_ok-value.value (Ok (tf.Test c.in_ok-field.field c.args.filter.now.op c.in_ok-value.value.tree)) (cc c.in_ok-field.ensures) (cc c.in_ok-asked.ensures) (cc c.in_ok-value.ensures) refl in
     cc whole
 
 pub typed_items-returns-in_err-one : goal.typed_items-returns-in_err-one
