@@ -1,5 +1,5 @@
 -- What is shown of each tree that is typed, of lists and of comparisons.
-use Rattle.std.proofs.Common.{◌≡◌, ℕ, Bool, List, [], ◌∷◌, ◌++◌, map, refl, sym, ◌∙◌, subst, append_assoc, append-nil}
+use Rattle.std.proofs.Common.{◌≡◌, ℕ, List, [], ◌∷◌, ◌++◌, map, refl, sym, ◌∙◌, subst, append_assoc, append-nil}
 use Rattle.std.specs.Prelude.{IfSome, Option, Ok}
 use Rattle.sc_tree.specs.declared.exprs.CmpOp.{CmpOp}
 use Rattle.sc_tree.specs.declared.exprs.CmpOp.TheVariants.{Eq, Ne, Lt, Le, Gt, Ge}
@@ -18,7 +18,7 @@ use Rattle.sc_schema.specs.declared.trees.TExpr.TheVariants as t
 use Rattle.sc_schema.specs.declared.trees.TSet.{TSet}
 use Rattle.sc_schema.specs.declared.trees.TItem.{TItem}
 use Rattle.sc_schema.specs.declared.trees.TFilter.{TFilter}
-use Rattle.sc_schema.specs.Trees.{Expr, SetExpr, Items, Filters}
+use Rattle.sc_schema.specs.Trees.{Items, Filters}
 use Rattle.sc_schema.specs.Schema.{Schema}
 use Rattle.sc_schema.specs.Typing as typing
 use Rattle.sc_schema.specs.Typing.{HasModel, MayHold, MayTest, IsExpr, IsSet, AreItems, AreFilters, IsType}
