@@ -9,7 +9,7 @@ use Rattle.sc_formula.specs.Truth.{are_equal, both_pass, number_of, is_raised, i
 use Rattle.sc_terms.specs.GroundTerms.{GroundTerm}
 use Rattle.sc_tables.specs.Vocabulary.{term_at}
 use Rattle.sc_tables.specs.Table.{Table, holds, value_at}
-use Rattle.sc_tables.specs.Facts.{Noun, Fact, Assignment, ground, number, text, there, same, below, raised, related, there_of, facts_of_two, facts_of_pair, noun_at, facts_at, table_for, noun_value, is_fact}
+use Rattle.sc_tables.specs.Facts.{Noun, Fact, Assignment, term, number, text, there, same, below, raised, related, there_of, facts_of_two, facts_of_pair, noun_at, facts_at, table_for, noun_value, is_fact}
 
 and_true : (b : Bool) → b ≡ (b && true)
 and_true true = refl
@@ -50,12 +50,12 @@ module _ (a : Assignment) (env : List GroundTerm) where
   noun_is : (t : Term) (x : Noun) → noun_at env t ≡ Some x → value_at T env t ≡ cond (list_all (is_fact a) (there_of x)) (Some (noun_value a x)) None
   noun_is (bound sort depth) x e = own (slice_get env depth) e
     where
-      own : (o : Option GroundTerm) → option_map ground o ≡ Some x
+      own : (o : Option GroundTerm) → option_map term o ≡ Some x
           → option_and_then T.value o ≡ cond (list_all (is_fact a) (there_of x)) (Some (noun_value a x)) None
       own None e = cc
       own (Some u) e = of_ground x u cc
         where
-          of_ground : (x : Noun) (u : GroundTerm) → ground u ≡ x → T.value u ≡ cond (list_all (is_fact a) (there_of x)) (Some (noun_value a x)) None
+          of_ground : (x : Noun) (u : GroundTerm) → term u ≡ x → T.value u ≡ cond (list_all (is_fact a) (there_of x)) (Some (noun_value a x)) None
           of_ground x u e =
               let P : Noun → Type 0 = λ x. T.value u ≡ cond (list_all (is_fact a) (there_of x)) (Some (noun_value a x)) None in
               subst P e (ap (λ b. cond b (Some (a.value u)) None) (and_true (a.there u)))
@@ -69,11 +69,11 @@ module _ (a : Assignment) (env : List GroundTerm) where
       subst P same' refl
   noun_is (app h t) x e = own (term_at env (app h t)) e
     where
-      own : (o : Option GroundTerm) → option_map ground o ≡ Some x
+      own : (o : Option GroundTerm) → option_map term o ≡ Some x
           → option_and_then T.value o ≡ cond (list_all (is_fact a) (there_of x)) (Some (noun_value a x)) None
       own None e = cc
       own (Some u) e =
-          let same' : ground u ≡ x = cc in
+          let same' : term u ≡ x = cc in
           let P : Noun → Type 0 = λ x. T.value u ≡ cond (list_all (is_fact a) (there_of x)) (Some (noun_value a x)) None in
           subst P same' (ap (λ b. cond b (Some (a.value u)) None) (and_true (a.there u)))
 

@@ -21,7 +21,7 @@ use Rattle.sc_terms.proofs.Kept.{nat_same}
 use Rattle.sc_tables.specs.Vocabulary.{Vocabulary, Pair, IsVocabulary, IsValued, IsValuedIn, told}
 use Rattle.sc_tables.specs.Table.{Table, is_there, IsSame, AreSame}
 use Rattle.sc_tables.specs.Consistent.{IsConsistent, IsOfRange, range_of}
-use Rattle.sc_tables.specs.Facts.{Assignment, Fact, Clause, ground, there, same, raised, related, empty, so, not_so, implied, table_for}
+use Rattle.sc_tables.specs.Facts.{Assignment, Fact, Clause, term, there, same, raised, related, empty, so, not_so, implied, table_for}
 use Rattle.sc_tables.specs.Clauses.{IsTyped, one_and_same, all_same, total_clauses, term_clauses, sort_clauses, sort_clauses_of, target_clauses, function_clauses, pair_clauses, alike_clauses, element_clauses, value_clauses, value_clauses_of, relation_clauses, for_pairs, base_clauses, congruence_clauses}
 use Rattle.sc_tables.proofs.MadeAtoms.{one_truth}
 use Rattle.sc_tables.proofs.Sound.{told_function}
@@ -147,10 +147,10 @@ module _ (g : Signature) (f : Formula) (terms : List GroundTerm) (v : Vocabulary
     element_too : (h : ℕ) (t u : GroundTerm) → Contains v.named (field h t) → Contains v.named (field h u) → IsSame T t u
         → a.there (field h t) ≡ true → a.value (field h t) ≡ a.value (field h u)
     element_too h t u c d same' e =
-        let met = if_met (h == h) (implied (there (field h t) ∷ one_and_same t u) (so (same (ground (field h t)) (ground (field h u)))) ∷ []) (nat_same h)
+        let met = if_met (h == h) (implied (there (field h t) ∷ one_and_same t u) (so (same (term (field h t)) (term (field h u)))) ∷ []) (nat_same h)
         (pair_met (element_clauses g) v.named four.1.0 (field h t) (field h u) c d) in
         equal_same (a.value (field h t)) (a.value (field h u))
-        (met_implied a (there (field h t) ∷ one_and_same t u) (so (same (ground (field h t)) (ground (field h u)))) met.0
+        (met_implied a (there (field h t) ∷ one_and_same t u) (so (same (term (field h t)) (term (field h u)))) met.0
         (e, from_same a g f terms v words typed t u (argument h t (listed_told (field h t) c)) same'))
 
     value_too : (h : ℕ) (t u : GroundTerm) → Contains v.others (field h t) → Contains v.others (field h u) → sort_of g (field h t) ≡ None → IsSame T t u
@@ -188,10 +188,10 @@ module _ (g : Signature) (f : Formula) (terms : List GroundTerm) (v : Vocabulary
             (λ e. met_implied a (raised (field h u) ∷ there (field h u) ∷ one_and_same u t) (so (raised (field h t))) back.0 (e, (alive', qs)))
         choose kinds.Num no-sort p q met back ps qs =
             equal_same (a.value (field h t)) (a.value (field h u))
-            (met_implied a (there (field h t) ∷ one_and_same t u) (so (same (ground (field h t)) (ground (field h u)))) met.0 (alive, ps))
+            (met_implied a (there (field h t) ∷ one_and_same t u) (so (same (term (field h t)) (term (field h u)))) met.0 (alive, ps))
         choose kinds.Str no-sort p q met back ps qs =
             equal_same (a.value (field h t)) (a.value (field h u))
-            (met_implied a (there (field h t) ∷ one_and_same t u) (so (same (ground (field h t)) (ground (field h u)))) met.0 (alive, ps))
+            (met_implied a (there (field h t) ∷ one_and_same t u) (so (same (term (field h t)) (term (field h u)))) met.0 (alive, ps))
 
     other_listed : (t : GroundTerm) → Contains (told v) t → sort_of g t ≡ None → Contains v.others t
     other_listed t c kind =
@@ -220,7 +220,7 @@ module _ (g : Signature) (f : Formula) (terms : List GroundTerm) (v : Vocabulary
     abbrev VariableClauses : ℕ → ℕ → GroundTerms → GroundTerms → List Clause
     VariableClauses number sort ts us =
         implied (there (skolem number sort ts) ∷ all_same ts us) (so (there (skolem number sort us)))
-        ∷ implied (there (skolem number sort ts) ∷ all_same ts us) (so (same (ground (skolem number sort ts)) (ground (skolem number sort us))))
+        ∷ implied (there (skolem number sort ts) ∷ all_same ts us) (so (same (term (skolem number sort ts)) (term (skolem number sort us))))
         ∷ []
 
     variable_met : (number sort : ℕ) (ts us : GroundTerms) → Contains v.named (skolem number sort ts) → Contains v.named (skolem number sort us)
@@ -240,7 +240,7 @@ module _ (g : Signature) (f : Formula) (terms : List GroundTerm) (v : Vocabulary
         let met = variable_met number sort ts us c d in (
           met_implied a (there (skolem number sort ts) ∷ all_same ts us) (so (there (skolem number sort us))) met.0 facts,
           equal_same (a.value (skolem number sort ts)) (a.value (skolem number sort us))
-              (met_implied a (there (skolem number sort ts) ∷ all_same ts us) (so (same (ground (skolem number sort ts)) (ground (skolem number sort us)))) met.1.0 facts),
+              (met_implied a (there (skolem number sort ts) ∷ all_same ts us) (so (same (term (skolem number sort ts)) (term (skolem number sort us)))) met.1.0 facts),
         )
 
     relation_too : (p q : Pair) → Contains v.pairs p → Contains v.pairs q → p.relation ≡ q.relation → IsSame T p.holder q.holder → IsSame T p.member q.member

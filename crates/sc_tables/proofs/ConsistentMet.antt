@@ -18,7 +18,7 @@ use Rattle.sc_terms.specs.Universe.{HaveSorts, HasEach}
 use Rattle.sc_tables.specs.Vocabulary.{Vocabulary, Pair, IsVocabulary, IsValuedIn, told}
 use Rattle.sc_tables.specs.Table.{Table, is_there}
 use Rattle.sc_tables.specs.Consistent.{IsConsistent, range_of}
-use Rattle.sc_tables.specs.Facts.{Assignment, Clause, ground, there, same, raised, related, empty, so, not_so, implied, table_for, is_met}
+use Rattle.sc_tables.specs.Facts.{Assignment, Clause, term, there, same, raised, related, empty, so, not_so, implied, table_for, is_met}
 use Rattle.sc_tables.specs.Clauses.{IsTyped, one_and_same, all_same, total_clauses, term_clauses, sort_clauses, sort_clauses_of, target_clauses, function_clauses, pair_clauses, alike_clauses, element_clauses, value_clauses, value_clauses_of, relation_clauses, for_pairs, base_clauses, congruence_clauses}
 use Rattle.sc_terms.specs.Parts.{Variable}
 use Rattle.sc_terms.specs.Universe.{variables_of}
@@ -136,24 +136,24 @@ module _ (g : Signature) (f : Formula) (terms : List GroundTerm) (v : Vocabulary
             (met, tt)
 
     fields_met : (h : ℕ) (t u : GroundTerm) → Contains v.named (field h t) → Contains v.named (field h u)
-        → AreMet a (implied (there (field h t) ∷ one_and_same t u) (so (same (ground (field h t)) (ground (field h u)))) ∷ [])
+        → AreMet a (implied (there (field h t) ∷ one_and_same t u) (so (same (term (field h t)) (term (field h u)))) ∷ [])
     fields_met h t u c d =
         let (sort, kind) = words.sorted (field h t) c in
         let P : Option ℕ → Type 0 = λ o. IsValuedIn g v o (field h t) in
         let Q : Option ℕ → Type 0 = λ o. IsValuedIn g v o (field h u) in
-        let met = implied_met a (there (field h t) ∷ one_and_same t u) (so (same (ground (field h t)) (ground (field h u))))
+        let met = implied_met a (there (field h t) ∷ one_and_same t u) (so (same (term (field h t)) (term (field h u))))
         (λ p. same_equal (kinds.Rec sort) (a.value (field h t)) (a.value (field h u)) tt (element_typed a g f terms v words typed (field h t) sort c kind)
         (same_there (field h t) (field h u) (fits.functions.same h t u (subst P (sym kind) c) (subst Q (sym kind) d) (to_same a t u p.1)) p.0).1) in
         (met, tt)
 
     variables_met : (number sort : ℕ) (ts us : GroundTerms) → Contains v.named (skolem number sort ts) → Contains v.named (skolem number sort us)
         → AreMet a (implied (there (skolem number sort ts) ∷ all_same ts us) (so (there (skolem number sort us)))
-        ∷ implied (there (skolem number sort ts) ∷ all_same ts us) (so (same (ground (skolem number sort ts)) (ground (skolem number sort us))))
+        ∷ implied (there (skolem number sort ts) ∷ all_same ts us) (so (same (term (skolem number sort ts)) (term (skolem number sort us))))
         ∷ [])
     variables_met number sort ts us c d = (
       implied_met a (there (skolem number sort ts) ∷ all_same ts us) (so (there (skolem number sort us))) (λ p. (both p).0),
       (
-        implied_met a (there (skolem number sort ts) ∷ all_same ts us) (so (same (ground (skolem number sort ts)) (ground (skolem number sort us))))
+        implied_met a (there (skolem number sort ts) ∷ all_same ts us) (so (same (term (skolem number sort ts)) (term (skolem number sort us))))
             (λ p. same_equal (kinds.Rec sort) (a.value (skolem number sort ts)) (a.value (skolem number sort us)) tt
             (element_typed a g f terms v words typed (skolem number sort ts) sort c refl) (both p).1),
         tt,
@@ -179,22 +179,22 @@ module _ (g : Signature) (f : Formula) (terms : List GroundTerm) (v : Vocabulary
     element_met (skolem number sort ts) (skolem number' sort' us) c d =
         met_if a ((number == number') && (sort == sort'))
         (implied (there (skolem number sort ts) ∷ all_same ts us) (so (there (skolem number' sort' us)))
-        ∷ implied (there (skolem number sort ts) ∷ all_same ts us) (so (same (ground (skolem number sort ts)) (ground (skolem number' sort' us))))
+        ∷ implied (there (skolem number sort ts) ∷ all_same ts us) (so (same (term (skolem number sort ts)) (term (skolem number' sort' us))))
         ∷ []) (λ e.
         let (p, q) = and_parts (number == number') (sort == sort') e in
         let P : ℕ → Type 0 = λ n. Contains v.named (skolem n sort' us) → AreMet a (implied (there (skolem number sort ts) ∷ all_same ts us) (so (there (skolem n sort' us)))
-        ∷ implied (there (skolem number sort ts) ∷ all_same ts us) (so (same (ground (skolem number sort ts)) (ground (skolem n sort' us))))
+        ∷ implied (there (skolem number sort ts) ∷ all_same ts us) (so (same (term (skolem number sort ts)) (term (skolem n sort' us))))
         ∷ []) in
         let Q : ℕ → Type 0 = λ s. Contains v.named (skolem number s us) → AreMet a (implied (there (skolem number sort ts) ∷ all_same ts us) (so (there (skolem number s us)))
-        ∷ implied (there (skolem number sort ts) ∷ all_same ts us) (so (same (ground (skolem number sort ts)) (ground (skolem number s us))))
+        ∷ implied (there (skolem number sort ts) ∷ all_same ts us) (so (same (term (skolem number sort ts)) (term (skolem number s us))))
         ∷ []) in
         subst P (eqb-true number number' p) (subst Q (eqb-true sort sort' q) (variables_met number sort ts us c)) d)
     element_met (skolem number sort ts) (field h t) c d = tt
     element_met (field h t) (constant sort) c d = tt
     element_met (field h t) (skolem number sort ts) c d = tt
     element_met (field h t) (field k u) c d =
-        met_if a (h == k) (implied (there (field h t) ∷ one_and_same t u) (so (same (ground (field h t)) (ground (field k u)))) ∷ []) (λ e.
-        let P : ℕ → Type 0 = λ k. Contains v.named (field k u) → AreMet a (implied (there (field h t) ∷ one_and_same t u) (so (same (ground (field h t)) (ground (field k u)))) ∷ []) in
+        met_if a (h == k) (implied (there (field h t) ∷ one_and_same t u) (so (same (term (field h t)) (term (field k u)))) ∷ []) (λ e.
+        let P : ℕ → Type 0 = λ k. Contains v.named (field k u) → AreMet a (implied (there (field h t) ∷ one_and_same t u) (so (same (term (field h t)) (term (field k u)))) ∷ []) in
         subst P (eqb-true h k e) (fields_met h t u c) d)
 
     abbrev IsNoRecord : Range → Type 0
@@ -234,11 +234,11 @@ module _ (g : Signature) (f : Formula) (terms : List GroundTerm) (v : Vocabulary
         (λ p. sym (ap is_raised (value_equal h t u c d kinds.Flag e tt p.1.0 p.1.1)) ∙ p.0) in
         (met, tt)
     values_met h t u c d (Some kinds.Num) e =
-        let met = implied_met a (there (field h t) ∷ one_and_same t u) (so (same (ground (field h t)) (ground (field h u))))
+        let met = implied_met a (there (field h t) ∷ one_and_same t u) (so (same (term (field h t)) (term (field h u))))
         (λ p. same_equal kinds.Num (a.value (field h t)) (a.value (field h u)) tt (typed (field h t) kinds.Num (other_told (field h t) c) e) (value_equal h t u c d kinds.Num e tt p.0 p.1)) in
         (met, tt)
     values_met h t u c d (Some kinds.Str) e =
-        let met = implied_met a (there (field h t) ∷ one_and_same t u) (so (same (ground (field h t)) (ground (field h u))))
+        let met = implied_met a (there (field h t) ∷ one_and_same t u) (so (same (term (field h t)) (term (field h u))))
         (λ p. same_equal kinds.Str (a.value (field h t)) (a.value (field h u)) tt (typed (field h t) kinds.Str (other_told (field h t) c) e) (value_equal h t u c d kinds.Str e tt p.0 p.1)) in
         (met, tt)
 

@@ -18,7 +18,7 @@ use Rattle.sc_terms.proofs.Kept.{nat_same, list_any-from}
 use Rattle.sc_terms.proofs.Lists.{find-any}
 use Rattle.sc_tables.specs.Vocabulary.{Vocabulary, told}
 use Rattle.sc_tables.specs.Consistent.{IsOfRange, range_of}
-use Rattle.sc_tables.specs.Facts.{Noun, Assignment, ground, number, text, same, below, raised, is_fact, noun_value}
+use Rattle.sc_tables.specs.Facts.{Noun, Assignment, term, number, text, same, below, raised, is_fact, noun_value}
 use Rattle.sc_tables.specs.Clauses.{IsTyped}
 use Rattle.sc_tables.specs.Models.{Model, IsLawful, IsNumeric, IsWithoutText, noun_number, text_for, value_for, assignment_of}
 use Rattle.sc_tables.proofs.Positions.{find-passes}
@@ -119,20 +119,20 @@ module _ (g : Signature) (texts : List (List ℕ)) (spare : ℕ → List ℕ) (m
   value_is t range kind = ap (λ o. value_for g texts spare m o t) kind
 
   two_values : (t u : GroundTerm) (range : Range) → range_of g t ≡ Some range → range_of g u ≡ Some range
-      → is_fact a (same (ground t) (ground u)) ≡ are_equal (value_for g texts spare m (Some range) t) (value_for g texts spare m (Some range) u)
+      → is_fact a (same (term t) (term u)) ≡ are_equal (value_for g texts spare m (Some range) t) (value_for g texts spare m (Some range) u)
   two_values t u range p q =
       ap (λ x. are_equal x (a.value u)) (value_is t range p) ∙ ap (are_equal (value_for g texts spare m (Some range) t)) (value_is u range q)
 
   -- elements and texts are the same where their classes are
   pub elements_same : (t u : GroundTerm) (n : ℕ) → range_of g t ≡ Some (kinds.Rec n) → range_of g u ≡ Some (kinds.Rec n)
-      → is_fact a (same (ground t) (ground u)) ≡ (m.class t == m.class u)
+      → is_fact a (same (term t) (term u)) ≡ (m.class t == m.class u)
   elements_same t u n p q = two_values t u (kinds.Rec n) p q
 
   text-value : (x y : List ℕ) → Str x ≡ Str y → x ≡ y
   text-value x y e = cc
 
   pub texts_same : (t u : GroundTerm) → Contains (told v) t → Contains (told v) u → range_of g t ≡ Some kinds.Str → range_of g u ≡ Some kinds.Str
-      → is_fact a (same (ground t) (ground u)) ≡ (m.class t == m.class u)
+      → is_fact a (same (term t) (term u)) ≡ (m.class t == m.class u)
   texts_same t u c d p q =
       two_values t u kinds.Str p q
       ∙ same_test (Str (written (m.class t))) (Str (written (m.class u))) (m.class t) (m.class u)
@@ -140,7 +140,7 @@ module _ (g : Signature) (texts : List (List ℕ)) (spare : ℕ → List ℕ) (m
       (λ e. same_equal kinds.Str (Str (written (m.class t))) (Str (written (m.class u))) tt (text_fits t (c, p)) (ap (λ k. Str (written k)) e))
 
   pub text_same : (t : GroundTerm) (w : List ℕ) → Contains (told v) t → range_of g t ≡ Some kinds.Str → Contains texts w
-      → is_fact a (same (ground t) (text w)) ≡ (m.class t == m.text_class w)
+      → is_fact a (same (term t) (text w)) ≡ (m.class t == m.text_class w)
   text_same t w c p d =
       ap (λ x. are_equal x (Str w)) (value_is t kinds.Str p)
       ∙ same_test (Str (written (m.class t))) (Str w) (m.class t) (m.text_class w)
@@ -149,7 +149,7 @@ module _ (g : Signature) (texts : List (List ℕ)) (spare : ℕ → List ℕ) (m
 
   -- the value of a number
   numeric_is : (x : Noun) → IsNumeric g x → noun_value a x ≡ Num (noun_number m x)
-  numeric_is (ground t) kind = value_is t kinds.Num kind
+  numeric_is (term t) kind = value_is t kinds.Num kind
   numeric_is (number n) h = refl
   numeric_is (text w) h = absurd h
 

@@ -8,7 +8,7 @@ use Rattle.sc_formula.specs.declared.structure.Signature.{Signature}
 use Rattle.sc_terms.specs.GroundTerms.{GroundTerm, GroundTerms, constant, skolem, field, no_terms, term_and, list_of, sort_of}
 use Rattle.sc_tables.specs.Vocabulary.{Vocabulary, Pair, told}
 use Rattle.sc_tables.specs.Consistent.{range_of, IsOfRange}
-use Rattle.sc_tables.specs.Facts.{Fact, Assignment, Clause, ground, there, same, raised, related, empty, so, not_so, implied}
+use Rattle.sc_tables.specs.Facts.{Fact, Assignment, Clause, term, there, same, raised, related, empty, so, not_so, implied}
 
 -- what each told term has is of its range
 abbrev pub IsTyped : Signature → Vocabulary → Assignment → Type 0
@@ -16,7 +16,7 @@ IsTyped g v a = (t : GroundTerm) (range : Range) → Contains (told v) t → ran
 
 -- two terms are there and the same; and those of two lists, one by one
 abbrev pub one_and_same : GroundTerm → GroundTerm → List Fact
-one_and_same t u = there t ∷ there u ∷ same (ground t) (ground u) ∷ []
+one_and_same t u = there t ∷ there u ∷ same (term t) (term u) ∷ []
 
 abbrev pub all_same : GroundTerms → GroundTerms → List Fact
 all_same no_terms us = []
@@ -72,21 +72,21 @@ module _ (g : Signature) where
   element_clauses (skolem number sort ts) (skolem number' sort' us) =
       cond ((number == number') && (sort == sort'))
       (implied (there (skolem number sort ts) ∷ all_same ts us) (so (there (skolem number' sort' us)))
-      ∷ implied (there (skolem number sort ts) ∷ all_same ts us) (so (same (ground (skolem number sort ts)) (ground (skolem number' sort' us))))
+      ∷ implied (there (skolem number sort ts) ∷ all_same ts us) (so (same (term (skolem number sort ts)) (term (skolem number' sort' us))))
       ∷ []) []
   element_clauses (skolem number sort ts) (field h t) = []
   element_clauses (field h t) (constant sort) = []
   element_clauses (field h t) (skolem number sort ts) = []
   element_clauses (field h t) (field k u) =
-      cond (h == k) (implied (there (field h t) ∷ one_and_same t u) (so (same (ground (field h t)) (ground (field k u)))) ∷ []) []
+      cond (h == k) (implied (there (field h t) ∷ one_and_same t u) (so (same (term (field h t)) (term (field k u)))) ∷ []) []
 
   -- and so are numbers, texts and truth values
   abbrev pub value_clauses_of : Option Range → GroundTerm → GroundTerm → List Fact → List Clause
   value_clauses_of None t u ps = []
   value_clauses_of (Some (range.Rec sort)) t u ps = []
   value_clauses_of (Some range.Flag) t u ps = implied (raised t ∷ there t ∷ ps) (so (raised u)) ∷ []
-  value_clauses_of (Some range.Num) t u ps = implied (there t ∷ ps) (so (same (ground t) (ground u))) ∷ []
-  value_clauses_of (Some range.Str) t u ps = implied (there t ∷ ps) (so (same (ground t) (ground u))) ∷ []
+  value_clauses_of (Some range.Num) t u ps = implied (there t ∷ ps) (so (same (term t) (term u))) ∷ []
+  value_clauses_of (Some range.Str) t u ps = implied (there t ∷ ps) (so (same (term t) (term u))) ∷ []
 
   abbrev pub value_clauses : GroundTerm → GroundTerm → List Clause
   value_clauses (constant sort) u = []

@@ -12,7 +12,7 @@ use Rattle.sc_tables.specs.Table.{Table}
 
 -- what may be equal or compared: a ground term, a number, a text
 pub data Noun : Type 0 where
-  ground : GroundTerm → Noun
+  term : GroundTerm → Noun
   number : ℤ → Noun
   text : List ℕ → Noun
 
@@ -55,7 +55,7 @@ implied (p ∷ ps) l = not_so p ∷ implied ps l
 
 -- the terms that have to be there
 abbrev pub there_of : Noun → List Fact
-there_of (ground t) = there t ∷ []
+there_of (term t) = there t ∷ []
 there_of (number n) = []
 there_of (text t) = []
 
@@ -71,10 +71,10 @@ facts_of_pair r (Some t) (Some u) = Some (related (record { relation = r; holder
 
 module _ (env : List GroundTerm) where
   abbrev pub noun_at : Term → Option Noun
-  noun_at (bound sort depth) = option_map ground (term_at env (bound sort depth))
+  noun_at (bound sort depth) = option_map term (term_at env (bound sort depth))
   noun_at (num n) = Some (number n)
   noun_at (str t) = Some (text t)
-  noun_at (app h t) = option_map ground (term_at env (app h t))
+  noun_at (app h t) = option_map term (term_at env (app h t))
 
   -- the facts that together say that an atom of a formula holds where the variables above are these terms
   abbrev pub facts_at : Formula → Option (List Fact)
@@ -101,7 +101,7 @@ module _ (a : Assignment) where
   }
 
   abbrev pub noun_value : Noun → SVal
-  noun_value (ground t) = a.value t
+  noun_value (term t) = a.value t
   noun_value (number n) = Num n
   noun_value (text t) = Str t
 

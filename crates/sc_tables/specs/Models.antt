@@ -11,7 +11,7 @@ use Rattle.sc_formula.specs.declared.structure.SVal.TheVariants.{Rec, Flag, Num,
 use Rattle.sc_terms.specs.GroundTerms.{GroundTerm}
 use Rattle.sc_tables.specs.Vocabulary.{Vocabulary, told}
 use Rattle.sc_tables.specs.Consistent.{range_of}
-use Rattle.sc_tables.specs.Facts.{Noun, Assignment, ground, number, text}
+use Rattle.sc_tables.specs.Facts.{Noun, Assignment, term, number, text}
 
 -- which facts hold that need no procedure; the classes of terms and of the formula's texts, which are the same where these are equal;
 -- and the numbers of terms
@@ -26,12 +26,12 @@ pub record Model : Type 0 where
 
 -- a noun that is a number, and which
 abbrev pub IsNumeric : Signature → Noun → Type 0
-IsNumeric g (ground t) = range_of g t ≡ Some range.Num
+IsNumeric g (term t) = range_of g t ≡ Some range.Num
 IsNumeric g (number n) = Unit {0}
 IsNumeric g (text t) = ⊥
 
 abbrev pub noun_number : Model → Noun → ℤ
-noun_number m (ground t) = m.number t
+noun_number m (term t) = m.number t
 noun_number m (number n) = n
 noun_number m (text t) = pos 0
 

@@ -20,7 +20,7 @@ ghost use Rattle.sc_terms.specs.Structures.{IsStructure};
 ghost use Rattle.sc_terms.specs.Universe.{ArisesWithin, IsClosedSet, IsHerbrandTerm};
 ghost use Rattle.sc_tables.specs.Clauses.{IsTyped, base_clauses, congruence_clauses};
 ghost use Rattle.sc_tables.specs.Consistent.{IsConsistent, range_of};
-ghost use Rattle.sc_tables.specs.Facts.{Assignment, Fact, Noun, below, facts_at, ground, is_fact};
+ghost use Rattle.sc_tables.specs.Facts.{Assignment, Fact, Noun, below, facts_at, term, is_fact};
 ghost use Rattle.sc_tables.specs.Facts.{is_met, raised, same, table_for, text};
 ghost use Rattle.sc_tables.specs.Made.{made, made_choice, table_of};
 ghost use Rattle.sc_tables.specs.Models.{IsLawful, IsNumeric, Model, assignment_of, noun_number};
@@ -123,19 +123,19 @@ pub fn models_are_assignments()
         (spare : ℕ → List ℕ) (m : Model) (t u : GroundTerm) (sort : ℕ) →
         IsLawful g texts spare m v →
         range_of g t ≡ Some (Range.Rec sort) → range_of g u ≡ Some (Range.Rec sort) →
-        is_fact (assignment_of g texts spare m) (same (ground t) (ground u))
+        is_fact (assignment_of g texts spare m) (same (term t) (term u))
         ≡ (m.class t == m.class u) }
     ensures texts { (g : Signature) (v : Vocabulary) (texts : List (List ℕ)) (spare : ℕ → List ℕ)
         (m : Model) (t u : GroundTerm) →
         IsLawful g texts spare m v → Contains (told v) t → Contains (told v) u →
         range_of g t ≡ Some Range.Str → range_of g u ≡ Some Range.Str →
-        is_fact (assignment_of g texts spare m) (same (ground t) (ground u))
+        is_fact (assignment_of g texts spare m) (same (term t) (term u))
         ≡ (m.class t == m.class u) }
     ensures literals { (g : Signature) (v : Vocabulary) (texts : List (List ℕ))
         (spare : ℕ → List ℕ) (m : Model) (t : GroundTerm) (w : List ℕ) →
         IsLawful g texts spare m v → Contains (told v) t → Contains texts w →
         range_of g t ≡ Some Range.Str →
-        is_fact (assignment_of g texts spare m) (same (ground t) (text w))
+        is_fact (assignment_of g texts spare m) (same (term t) (text w))
         ≡ (m.class t == m.text_class w) }
     ensures numbers { (g : Signature) (v : Vocabulary) (texts : List (List ℕ))
         (spare : ℕ → List ℕ) (m : Model) (x y : Noun) →
