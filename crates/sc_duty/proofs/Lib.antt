@@ -2,6 +2,7 @@ pub mod Adding
 pub mod Created
 pub mod Ends
 pub mod Failing
+pub mod Fitting
 pub mod Flows
 pub mod Gains
 pub mod Listed

@@ -44,6 +44,7 @@ use Rattle.sc_duty.specs.Gains.{IsGainDuty}
 use Rattle.sc_duty.specs.Flows.{IsFlowDuty}
 use Rattle.sc_duty.specs.Listed.{IsUseDuty, IsObligation}
 use Rattle.sc_duty.specs.Over.{IsSignatureOf, FormulasAreOver}
+use Rattle.sc_duty.proofs.Fitting.{sort-within}
 use Rattle.sc_duty.proofs.Means.{IsPrefix, prefix-more, prefix-itself, prefix-along}
 use Rattle.sc_duty.proofs.Starting.{place, Placed, placed, find-kept, number-found}
 use Rattle.sc_duty.proofs.Adding.{written-more, written-kept, none-written, added-split}
@@ -94,27 +95,9 @@ found-get {A} {B} p h (x ∷ xs) y e =
       | false ↦ λ e. found-get p h xs y e
     ] e
 
-found-below : {A : Type 0} (p : A → Bool) (xs : List A) (y : A) → list.find p xs ≡ Some y → before p xs < length xs
-found-below p [] y e = cc
-found-below {A} p (x ∷ xs) y e =
-    elim (p x) as (λ (t : Bool). cond t (Some x) (list.find p xs) ≡ Some y → cond t 0 (suc (before p xs)) < suc (length xs)) [
-      | true ↦ λ e. omega arith
-      | false ↦ λ e. let less = found-below p xs y e in omega (arith, less)
-    ] e
-
-numbers-length : (models : List ModelInfo) → length (model_numbers models) ≡ length models
-numbers-length [] = refl
-numbers-length (x ∷ models) = ap suc (numbers-length models)
-
 module _ (b : Schema) (g : Signature) (of : IsSignatureOf b g) where
   sort-below : (m : ℕ) → HasModel b m → sort_of b m < g.sorts
-  sort-below m h =
-      elim (model_of b m) as (λ (o : Option ModelInfo). model_of b m ≡ o → is_some o ≡ true → sort_of b m < g.sorts) [
-        | None ↦ λ here e. cc
-        | Some i ↦ λ here e.
-            let below = found-below (λ n. n == m) (model_numbers b.models) m (number-found b.models m i here) in
-            omega (arith, below, numbers-length b.models, of.sorts)
-      ] refl h
+  sort-below m h = let below = sort-within b m h in omega (arith, below, of.sorts)
 
   -- a field as a function
   function-over : (m f : ℕ) (ty : TTy) (q : Placed b m f ty) → is_set ty ≡ false → (xs : List ℕ) (u : Term) → HasTerm b g xs (base.Id m) u

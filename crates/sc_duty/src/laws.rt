@@ -4,7 +4,7 @@ ghost use Rattle.sc_duty.specs.Failing.{FalseFormulasSecure};
 ghost use Rattle.sc_duty.specs.Flows.{FlowFormulasAreTrue};
 ghost use Rattle.sc_duty.specs.Gains.{GainFormulasAreTrue};
 ghost use Rattle.sc_duty.specs.Listed.{ObligationsAreListed};
-ghost use Rattle.sc_duty.specs.Over.{FormulasAreOver};
+ghost use Rattle.sc_duty.specs.Over.{FormulasAreOver, SignaturesFit};
 ghost use Rattle.sc_duty.specs.Reads.{UsesRead};
 ghost use Rattle.sc_duty.specs.Truths.{FormulasAreTrue};
 ghost use Rattle.sc_duty.specs.Worked.{ExpandedIsCounted, WorkedFormulas};
@@ -38,6 +38,12 @@ pub fn obligations_are_listed()
 /// its start databases.
 pub fn formulas_are_over()
     ensures { FormulasAreOver }
+{}
+
+/// The schema of the start databases of a script has a signature, if it has fewer than 2^32 functions
+/// and fewer than 2^32 set relations.
+pub fn signatures_fit()
+    ensures { SignaturesFit }
 {}
 
 /// No formula of an obligation of a script is true on the structure of a start database exactly

@@ -27,6 +27,6 @@ mod laws;
 pub use duty::Duty;
 pub use laws::{
     expanded_is_counted, false_formulas_secure, flow_formulas_are_true, formulas_are_over,
-    formulas_are_true, gain_formulas_are_true, obligations_are_listed, uses_read_what_is_touched,
-    worked_formulas,
+    formulas_are_true, gain_formulas_are_true, obligations_are_listed, signatures_fit,
+    uses_read_what_is_touched, worked_formulas,
 };
