@@ -93,7 +93,7 @@ kept-pass {X} {Y} P keep g test each (x ∷ xs) h =
 
 -- ---- places whose models are there
 
-abbrev HasType : Schema → ℕ → FieldInfo → Type 0
+abbrev pub HasType : Schema → ℕ → FieldInfo → Type 0
 HasType b m f = IsType b f.ty × (type_of b m f.number ≡ Some f.ty)
 
 abbrev pub IsThere : Schema → Place → Type 0

@@ -14,6 +14,7 @@ pub mod OverReach
 pub mod ReadCells
 pub mod Reached
 pub mod Running
+pub mod Shapes
 pub mod Shown
 pub mod Signed
 pub mod Sources

@@ -6,6 +6,7 @@ ghost use Rattle.sc_duty.specs.Gains.{GainFormulasAreTrue};
 ghost use Rattle.sc_duty.specs.Listed.{ObligationsAreListed};
 ghost use Rattle.sc_duty.specs.Over.{FormulasAreOver, SignaturesFit};
 ghost use Rattle.sc_duty.specs.Reads.{UsesRead};
+ghost use Rattle.sc_duty.specs.Shapes.{StructuresAreOver};
 ghost use Rattle.sc_duty.specs.Truths.{FormulasAreTrue};
 ghost use Rattle.sc_duty.specs.Worked.{ExpandedIsCounted, WorkedFormulas};
 
@@ -44,6 +45,12 @@ pub fn formulas_are_over()
 /// and fewer than 2^32 set relations.
 pub fn signatures_fit()
     ensures { SignaturesFit }
+{}
+
+/// The structure of each start database of a script is a structure over the signature of the schema
+/// of start databases.
+pub fn structures_are_over()
+    ensures { StructuresAreOver }
 {}
 
 /// No formula of an obligation of a script is true on the structure of a start database exactly
