@@ -1,5 +1,5 @@
 -- The schema of start databases has a signature, if numbers of 32 bits serve for its fields.
-use Rattle.std.proofs.Common.{◌≡◌, ℕ, zero, suc, ◌+◌, ◌<◌, ◌≤◌, ◌^◌, Bool, true, false, not, ◌&&◌, List, [], ◌∷◌, ◌++◌, length, refl, ap, sym, ◌∙◌, subst, arith, cond}
+use Rattle.std.proofs.Common.{◌≡◌, ℕ, suc, ◌<◌, ◌^◌, Bool, true, false, not, ◌&&◌, List, [], ◌∷◌, ◌++◌, length, refl, ap, sym, ◌∙◌, subst, arith, cond}
 use Rattle.std.specs.Prelude.{Option, Some, None, map, filter, ◌==◌, is_some, slice_get, flat_map, nat_lt, nat_eq, option_and_then}
 use Rattle.std.specs.List.{find, list_all, AllByRecursion, IsDistinct}
 use Rattle.std.specs.Option.{option_map}
@@ -31,7 +31,7 @@ found-below {A} p (x ∷ xs) y e =
       | false ↦ λ e. let less = found-below p xs y e in omega (arith, less)
     ] e
 
-numbers-length : (models : List ModelInfo) → length (model_numbers models) ≡ length models
+pub numbers-length : (models : List ModelInfo) → length (model_numbers models) ≡ length models
 numbers-length [] = refl
 numbers-length (x ∷ models) = ap suc (numbers-length models)
 
@@ -169,7 +169,7 @@ module _ (t : Script) (is : IsScript t) where
       let fields : AreProperFields s.next_field i = h.0.1 in (
         first-there t is i.number (ap is_some h.1),
         fields-there s i one.fields fields.numbers.distinct (first-there t is)
-        (λ f ty e. first-type t is i.number f ty (ap (λ o. option_map (λ (g : FieldInfo). g.ty) (option_and_then (λ (u : ModelInfo). field_in u.fields f) o)) h.1 ∙ e)),
+            (λ f ty e. first-type t is i.number f ty (ap (λ o. option_map (λ (g : FieldInfo). g.ty) (option_and_then (λ (u : ModelInfo). field_in u.fields f) o)) h.1 ∙ e)),
       ))
       s.models all
 
@@ -185,7 +185,7 @@ module _ (t : Script) (is : IsScript t) where
       let fields : AreProperFields s.next_field info = all-last (AreProperFields s.next_field) (schema_at t k).models info proper.fields in (
         created-there t is k info below here,
         all-over (HasType t.start info.number) (HasType t.start info.number) closed_field (λ f h. h) info.fields
-        (fields-there s info one.fields fields.numbers.distinct more (λ f ty e. created-type t is k info below here f ty e)),
+            (fields-there s info one.fields fields.numbers.distinct more (λ f ty e. created-type t is k info below here f ty e)),
       )
 
   one-created : (c : Command) → ((info : ModelInfo) → c ≡ create_model info → AllThere t.start (closed_model info)) → AllByRecursion (AllThere t.start) (created_by c)

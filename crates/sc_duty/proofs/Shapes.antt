@@ -1,5 +1,5 @@
 -- The structure of a start database has what the signature names.
-use Rattle.std.proofs.Common.{◌≡◌, ℕ, zero, suc, ◌+◌, ◌<◌, Bool, true, false, not, ◌||◌, List, [], ◌∷◌, ◌++◌, length, refl, ap, sym, ◌∙◌, subst, arith, cond, inl, inr}
+use Rattle.std.proofs.Common.{◌≡◌, ℕ, zero, suc, ◌<◌, Bool, true, false, not, ◌||◌, List, [], ◌∷◌, length, refl, ap, sym, ◌∙◌, subst, arith, cond, inl, inr}
 use Rattle.std.specs.Prelude.{Option, Some, None, map, filter, ◌==◌, slice_get, slice_index_or, flat_map}
 use Rattle.std.specs.List.{list_any, All, AllByRecursion}
 use Rattle.std.proofs.lemmas.Bool.{eq-eqb}
@@ -9,11 +9,11 @@ use Rattle.sc_schema.specs.declared.types.TBase.{TBase}
 use Rattle.sc_schema.specs.declared.types.TBase.TheVariants as base
 use Rattle.sc_schema.specs.declared.types.TTy.{TTy}
 use Rattle.sc_schema.specs.declared.types.TTy.TheVariants.{Plain, Set, Opt}
-use Rattle.sc_schema.specs.Schema.{ModelInfo, Schema}
+use Rattle.sc_schema.specs.Schema.{Schema}
 use Rattle.sc_schema.specs.Typing.{HasModel, IsBase, IsType}
 use Rattle.sc_schema.specs.Proper.{model_numbers}
 use Rattle.sc_schema.specs.Script.{Script, IsScript}
-use Rattle.sc_data.specs.Values.{Value, Ids, IsBaseValueOf, IsValueOf, ids_in}
+use Rattle.sc_data.specs.Values.{Value, IsBaseValueOf, IsValueOf, ids_in}
 use Rattle.sc_data.specs.Database.{Database, ids_of, has_record, field_at, AreThere, IsBaseIntact, IsIntact}
 use Rattle.sc_data.proofs.Lookup.{typed}
 use Rattle.sc_eval.specs.Meaning.{set_of}
@@ -30,7 +30,7 @@ use Rattle.sc_duty.specs.Structures.{before, Place, places_in, is_set, functions
 use Rattle.sc_duty.specs.Over.{IsSignatureOf}
 use Rattle.sc_duty.specs.Shapes.{StructuresAreOver}
 use Rattle.sc_duty.proofs.Starting.{sorted}
-use Rattle.sc_duty.proofs.Fitting.{HasType, IsThere, start-places}
+use Rattle.sc_duty.proofs.Fitting.{numbers-length, HasType, IsThere, start-places}
 
 -- ---- lists
 
@@ -149,10 +149,6 @@ module _ (b : Schema) (d : Database) (sizes : (m : ℕ) → HasModel b m → siz
   pairs-fit m (Set n) set model other id there v h k =
       let ids : AreThere d n (set_of v) = subst (λ (w : Value). AreThere d n (set_of w)) (sym h.1) (subst (λ (w : Value). AreThere d n (ids_in w)) h.1 k) in
       others-fit m n (element_of d m id) other (element-below m id model there) (set_of v) ids
-
-numbers-length : (models : List ModelInfo) → length (model_numbers models) ≡ length models
-numbers-length [] = refl
-numbers-length (x ∷ models) = ap suc (numbers-length models)
 
 module _ (t : Script) (is : IsScript t) (g : Signature) (of : IsSignatureOf t.start g) (d : Database) (start : IsStart t d) where
   abbrev b : Schema

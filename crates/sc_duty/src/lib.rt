@@ -16,7 +16,8 @@
 //! | `specs/Gains.antt` | where the formula of an obligation against gains is true |
 //! | `specs/Reads.antt`, `specs/Flows.antt` | what a use reads, and where the formula of an obligation against flow leaks is true |
 //! | `specs/Listed.antt` | what the obligations in the list are |
-//! | `specs/Over.antt` | that formulas are closed and over the signature |
+//! | `specs/Over.antt` | that formulas are closed and over the signature, and that there is one |
+//! | `specs/Shapes.antt` | that structures of start databases are structures over the signature |
 //! | `specs/Failing.antt` | scripts none of whose obligations fails |
 //! | `specs/Truths.antt` | the formulas of conditions and policies tell what they mean |
 #![tactic(auto)]
