@@ -28,8 +28,9 @@ use Rattle.sc_formula.specs.Truth.{size_of, entry}
 use Rattle.sc_terms.specs.Structures as shape
 use Rattle.sc_duty.specs.Structures.{before, Place, places_in, is_set, functions_of, relations_of, sort_of, base_range, range_of, base_target, is_optional, target_of, function_signature, relation_signature, element_of, entry_of, entries_of, pairs_of, structure_of}
 use Rattle.sc_duty.specs.Over.{IsSignatureOf}
-use Rattle.sc_duty.specs.Shapes.{StructuresAreOver}
+use Rattle.sc_duty.specs.Shapes.{StructuresAreOver, UnsatisfiedSecure}
 use Rattle.sc_duty.proofs.Starting.{sorted}
+use Rattle.sc_duty.proofs.Failing.{secure_where_false}
 use Rattle.sc_duty.proofs.Fitting.{numbers-length, HasType, IsThere, start-places}
 
 -- ---- lists
@@ -237,3 +238,7 @@ structures_are_over t is g of d start =
       values = values-fit t is g of d start;
       pairs = pairs-there t is g of d start;
     }
+
+pub unsatisfied_secure : UnsatisfiedSecure
+unsatisfied_secure t is g of never =
+    secure_where_false t is (λ duty member d start. never duty member (structure_of t.start d) (structures_are_over t is g of d start))

@@ -12,5 +12,5 @@ pub use Rattle.sc_duty.specs.Flows.{cell_of, IsFlowDuty, LeaksToSomebody, FlowFo
 pub use Rattle.sc_duty.specs.Failing.{NoneFails, FalseFormulasSecure}
 pub use Rattle.sc_duty.specs.Listed.{IsUseDuty, IsObligation, ObligationsAreListed}
 pub use Rattle.sc_duty.specs.Over.{IsSignatureOf, FormulasAreOver, SignaturesFit}
-pub use Rattle.sc_duty.specs.Shapes.{StructuresAreOver}
+pub use Rattle.sc_duty.specs.Shapes.{StructuresAreOver, NoneHolds, UnsatisfiedSecure}
 pub use Rattle.sc_duty.specs.Worked.{WorkedFormulas, ExpandedIsCounted}

@@ -6,7 +6,7 @@ ghost use Rattle.sc_duty.specs.Gains.{GainFormulasAreTrue};
 ghost use Rattle.sc_duty.specs.Listed.{ObligationsAreListed};
 ghost use Rattle.sc_duty.specs.Over.{FormulasAreOver, SignaturesFit};
 ghost use Rattle.sc_duty.specs.Reads.{UsesRead};
-ghost use Rattle.sc_duty.specs.Shapes.{StructuresAreOver};
+ghost use Rattle.sc_duty.specs.Shapes.{StructuresAreOver, UnsatisfiedSecure};
 ghost use Rattle.sc_duty.specs.Truths.{FormulasAreTrue};
 ghost use Rattle.sc_duty.specs.Worked.{ExpandedIsCounted, WorkedFormulas};
 
@@ -51,6 +51,12 @@ pub fn signatures_fit()
 /// of start databases.
 pub fn structures_are_over()
     ensures { StructuresAreOver }
+{}
+
+/// If no formula of an obligation of a script is true on a structure over that signature, the script
+/// is secure at each of its commands.
+pub fn unsatisfied_secure()
+    ensures { UnsatisfiedSecure }
 {}
 
 /// No formula of an obligation of a script is true on the structure of a start database exactly

@@ -29,5 +29,5 @@ pub use duty::Duty;
 pub use laws::{
     expanded_is_counted, false_formulas_secure, flow_formulas_are_true, formulas_are_over,
     formulas_are_true, gain_formulas_are_true, obligations_are_listed, signatures_fit,
-    structures_are_over, uses_read_what_is_touched, worked_formulas,
+    structures_are_over, unsatisfied_secure, uses_read_what_is_touched, worked_formulas,
 };
