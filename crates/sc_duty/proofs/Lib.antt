@@ -2,6 +2,7 @@ pub mod Adding
 pub mod Created
 pub mod Ends
 pub mod Failing
+pub mod Fitting
 pub mod Flows
 pub mod Gains
 pub mod Listed
@@ -13,6 +14,7 @@ pub mod OverReach
 pub mod ReadCells
 pub mod Reached
 pub mod Running
+pub mod Shapes
 pub mod Shown
 pub mod Signed
 pub mod Sources

@@ -1,6 +1,6 @@
 -- The formulas of obligations are closed and over the signature of the schema of start databases.
 use Rattle.std.proofs.Common.{◌≡◌, ℕ, zero, suc, ◌+◌, ◌-◌, ◌<◌, ◌≤◌, Bool, true, false, not, List, [], ◌∷◌, ◌++◌, length, refl, ap, sym, ◌∙◌, subst, arith, cond, inl, inr, length-append}
-use Rattle.std.specs.Prelude.{Option, Some, None, map, ◌==◌, is_some, slice_get, flat_map, option_and_then, MatchOption}
+use Rattle.std.specs.Prelude.{Option, Some, None, map, is_some, slice_get, flat_map, option_and_then, MatchOption}
 use Rattle.std.specs.List as list
 use Rattle.std.specs.Option.{option_map, option_map_or}
 use Rattle.std.proofs.lemmas.Option.{slice_get_within}
@@ -19,7 +19,7 @@ use Rattle.sc_schema.specs.Trees.{Expr, flag, num, str, var, nothing, just, get,
 use Rattle.sc_schema.specs.Schema.{FieldInfo, ModelInfo, Added, Schema, field_in, model_of, type_of, model_of_target}
 use Rattle.sc_schema.specs.Typing.{HasModel, Scope, Content, records, IsExpr, IsSet, AreItems, AreFilters, IsInit}
 use Rattle.sc_schema.specs.Commands.{Command, create_model, delete_model, add_static, remove_static, add_principal, add_field, remove_field, update_field, weaken_field, update_model, weaken_model, with_field, schema_after, AreNumberedFrom}
-use Rattle.sc_schema.specs.Proper.{IsProper, model_numbers}
+use Rattle.sc_schema.specs.Proper.{IsProper}
 use Rattle.sc_schema.specs.Uses.{Use, in_order_of_text, uses_of, set_uses_of, item_uses_of, filter_uses_of, init_uses_of}
 use Rattle.sc_schema.specs.Script.{Script, schema_at, command_at, count, IsScript}
 use Rattle.sc_schema.specs.Kinds.{is_kind_at}
@@ -44,8 +44,9 @@ use Rattle.sc_duty.specs.Gains.{IsGainDuty}
 use Rattle.sc_duty.specs.Flows.{IsFlowDuty}
 use Rattle.sc_duty.specs.Listed.{IsUseDuty, IsObligation}
 use Rattle.sc_duty.specs.Over.{IsSignatureOf, FormulasAreOver}
+use Rattle.sc_duty.proofs.Fitting.{sort-within}
 use Rattle.sc_duty.proofs.Means.{IsPrefix, prefix-more, prefix-itself, prefix-along}
-use Rattle.sc_duty.proofs.Starting.{place, Placed, placed, find-kept, number-found}
+use Rattle.sc_duty.proofs.Starting.{place, Placed, placed, find-kept}
 use Rattle.sc_duty.proofs.Adding.{written-more, written-kept, none-written, added-split}
 use Rattle.sc_duty.proofs.Shown.{has-field, AddsNothing, changed-there, model-there, field-there}
 use Rattle.sc_duty.proofs.Created.{command-there, created-type, created-there, first-type, first-there, type-split, model-split, model-of-start, kind-model}
@@ -94,27 +95,9 @@ found-get {A} {B} p h (x ∷ xs) y e =
       | false ↦ λ e. found-get p h xs y e
     ] e
 
-found-below : {A : Type 0} (p : A → Bool) (xs : List A) (y : A) → list.find p xs ≡ Some y → before p xs < length xs
-found-below p [] y e = cc
-found-below {A} p (x ∷ xs) y e =
-    elim (p x) as (λ (t : Bool). cond t (Some x) (list.find p xs) ≡ Some y → cond t 0 (suc (before p xs)) < suc (length xs)) [
-      | true ↦ λ e. omega arith
-      | false ↦ λ e. let less = found-below p xs y e in omega (arith, less)
-    ] e
-
-numbers-length : (models : List ModelInfo) → length (model_numbers models) ≡ length models
-numbers-length [] = refl
-numbers-length (x ∷ models) = ap suc (numbers-length models)
-
 module _ (b : Schema) (g : Signature) (of : IsSignatureOf b g) where
   sort-below : (m : ℕ) → HasModel b m → sort_of b m < g.sorts
-  sort-below m h =
-      elim (model_of b m) as (λ (o : Option ModelInfo). model_of b m ≡ o → is_some o ≡ true → sort_of b m < g.sorts) [
-        | None ↦ λ here e. cc
-        | Some i ↦ λ here e.
-            let below = found-below (λ n. n == m) (model_numbers b.models) m (number-found b.models m i here) in
-            omega (arith, below, numbers-length b.models, of.sorts)
-      ] refl h
+  sort-below m h = let below = sort-within b m h in omega (arith, below, of.sorts)
 
   -- a field as a function
   function-over : (m f : ℕ) (ty : TTy) (q : Placed b m f ty) → is_set ty ≡ false → (xs : List ℕ) (u : Term) → HasTerm b g xs (base.Id m) u

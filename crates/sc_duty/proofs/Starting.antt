@@ -343,7 +343,7 @@ module _ (s : Schema) (d : Database) (is : IsDatabase s d) where
             subst IsStrictlyIncreasing (ap (λ o. map (λ (r : Record). r.id) (option_map_or (λ (t : Table). t.records) o [])) (sym at)) table.2.rising
       ] refl model
 
-  sorted : (m : ℕ) → HasModel s m → size_of st (sort_of s m) ≡ length (ids_of d m)
+  pub sorted : (m : ℕ) → HasModel s m → size_of st (sort_of s m) ≡ length (ids_of d m)
   sorted m model =
       elim (model_of s m) as (λ (o : Option ModelInfo). model_of s m ≡ o → is_some o ≡ true → size_of st (sort_of s m) ≡ length (ids_of d m)) [
         | None ↦ λ here e. cc

@@ -9,6 +9,7 @@ pub mod Over
 pub mod Public
 pub mod Reach
 pub mod Reads
+pub mod Shapes
 pub mod Sizes
 pub mod Structures
 pub mod Truths

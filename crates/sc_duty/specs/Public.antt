@@ -11,5 +11,6 @@ pub use Rattle.sc_duty.specs.Reads.{read_by, set_read_by, init_read_by, IsUsed, 
 pub use Rattle.sc_duty.specs.Flows.{cell_of, IsFlowDuty, LeaksToSomebody, FlowFormulasAreTrue}
 pub use Rattle.sc_duty.specs.Failing.{NoneFails, FalseFormulasSecure}
 pub use Rattle.sc_duty.specs.Listed.{IsUseDuty, IsObligation, ObligationsAreListed}
-pub use Rattle.sc_duty.specs.Over.{IsSignatureOf, FormulasAreOver}
+pub use Rattle.sc_duty.specs.Over.{IsSignatureOf, FormulasAreOver, SignaturesFit}
+pub use Rattle.sc_duty.specs.Shapes.{StructuresAreOver, NoneHolds, UnsatisfiedSecure}
 pub use Rattle.sc_duty.specs.Worked.{WorkedFormulas, ExpandedIsCounted}

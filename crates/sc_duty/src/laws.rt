@@ -4,8 +4,9 @@ ghost use Rattle.sc_duty.specs.Failing.{FalseFormulasSecure};
 ghost use Rattle.sc_duty.specs.Flows.{FlowFormulasAreTrue};
 ghost use Rattle.sc_duty.specs.Gains.{GainFormulasAreTrue};
 ghost use Rattle.sc_duty.specs.Listed.{ObligationsAreListed};
-ghost use Rattle.sc_duty.specs.Over.{FormulasAreOver};
+ghost use Rattle.sc_duty.specs.Over.{FormulasAreOver, SignaturesFit};
 ghost use Rattle.sc_duty.specs.Reads.{UsesRead};
+ghost use Rattle.sc_duty.specs.Shapes.{StructuresAreOver, UnsatisfiedSecure};
 ghost use Rattle.sc_duty.specs.Truths.{FormulasAreTrue};
 ghost use Rattle.sc_duty.specs.Worked.{ExpandedIsCounted, WorkedFormulas};
 
@@ -38,6 +39,24 @@ pub fn obligations_are_listed()
 /// its start databases.
 pub fn formulas_are_over()
     ensures { FormulasAreOver }
+{}
+
+/// The schema of the start databases of a script has a signature, if it has fewer than 2^32 functions
+/// and fewer than 2^32 set relations.
+pub fn signatures_fit()
+    ensures { SignaturesFit }
+{}
+
+/// The structure of each start database of a script is a structure over the signature of the schema
+/// of start databases.
+pub fn structures_are_over()
+    ensures { StructuresAreOver }
+{}
+
+/// If no formula of an obligation of a script is true on a structure over that signature, the script
+/// is secure at each of its commands.
+pub fn unsatisfied_secure()
+    ensures { UnsatisfiedSecure }
 {}
 
 /// No formula of an obligation of a script is true on the structure of a start database exactly

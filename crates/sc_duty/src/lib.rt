@@ -16,7 +16,8 @@
 //! | `specs/Gains.antt` | where the formula of an obligation against gains is true |
 //! | `specs/Reads.antt`, `specs/Flows.antt` | what a use reads, and where the formula of an obligation against flow leaks is true |
 //! | `specs/Listed.antt` | what the obligations in the list are |
-//! | `specs/Over.antt` | that formulas are closed and over the signature |
+//! | `specs/Over.antt` | that formulas are closed and over the signature, and that there is one |
+//! | `specs/Shapes.antt` | that structures of start databases are structures over the signature |
 //! | `specs/Failing.antt` | scripts none of whose obligations fails |
 //! | `specs/Truths.antt` | the formulas of conditions and policies tell what they mean |
 #![tactic(auto)]
@@ -27,6 +28,6 @@ mod laws;
 pub use duty::Duty;
 pub use laws::{
     expanded_is_counted, false_formulas_secure, flow_formulas_are_true, formulas_are_over,
-    formulas_are_true, gain_formulas_are_true, obligations_are_listed, uses_read_what_is_touched,
-    worked_formulas,
+    formulas_are_true, gain_formulas_are_true, obligations_are_listed, signatures_fit,
+    structures_are_over, unsatisfied_secure, uses_read_what_is_touched, worked_formulas,
 };
