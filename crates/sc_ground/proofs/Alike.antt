@@ -1,5 +1,5 @@
 -- Numbers that are counted as the same.
-use Rattle.std.proofs.Common.{◌≡◌, ℕ, zero, suc, ◌+◌, ◌*◌, ◌<◌, ◌≤◌, ◌⊎◌, inl, inr, min, refl, sym, ◌∙◌, List, [], ◌∷◌, ◌++◌, ap, arith, lit<}
+use Rattle.std.proofs.Common.{◌≡◌, ℕ, ◌+◌, ◌*◌, ◌<◌, ◌≤◌, ◌⊎◌, inl, inr, min, sym, ◌∙◌, List, [], ◌∷◌, ◌++◌, ap, arith, lit<}
 use Rattle.std.proofs.Math.Nat.{le-mul_of_pos_right}
 use Rattle.sc_terms.specs.Counts.{counted, sum_of, product_of}
 use Rattle.sc_terms.specs.Limits.{most_counted}

@@ -1,5 +1,5 @@
 -- How many terms and nodes an instantiation has, counted without listing them.
-use Rattle.std.specs.Prelude.{◌≡◌, ℕ, zero, suc, ◌+◌, ◌*◌, ◌<◌, List, [], ◌∷◌, cond, length, map, Option, None, Some, slice_index_or, ◌==◌}
+use Rattle.std.specs.Prelude.{◌≡◌, ℕ, ◌+◌, ◌*◌, ◌<◌, List, [], ◌∷◌, cond, length, map, Option, None, Some, slice_index_or, ◌==◌}
 use Rattle.sc_formula.specs.declared.node.Node.{Node}
 use Rattle.sc_formula.specs.declared.node.Node.TheVariants.{Bound, Num, Str, App, Yes, No, Eq, Less, Has, Flag, Present, Not, And, Or, Exists, Forall}
 use Rattle.sc_formula.specs.declared.structure.Signature.{Signature}

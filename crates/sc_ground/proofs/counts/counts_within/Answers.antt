@@ -1,9 +1,6 @@
-use Rattle.std.proofs.Common.{◌≡◌, ◌∙◌, List, ℕ, [], sym, arith, ◌+◌}
+use Rattle.std.proofs.Common.{◌≡◌, ◌∙◌, sym, arith, ◌+◌}
 use Rattle.std.specs.Cmp.Lexicographic.{same_text}
-use Rattle.sc_formula.specs.Over.{IsOver}
-use Rattle.sc_formula.specs.Trees.{Formula}
 use Rattle.sc_terms.specs.Counts.{count_after}
-use Rattle.sc_ground.specs.Basis.{IsBasis}
 use Rattle.sc_ground.specs.Counting.{AreCounts}
 use Rattle.sc_ground.proofs.CountRounds.{counts_begun, counts_on, counts_settled}
 use Rattle.sc_ground.proofs.counts.counts_within.Goals as goal

@@ -1,4 +1,4 @@
-use Rattle.std.proofs.Common.{◌∙◌, ◌≤◌, ℕ, [], sym, ap, arith}
+use Rattle.std.proofs.Common.{◌∙◌, ◌≤◌, [], sym, ap, arith}
 use Rattle.sc_formula.specs.Nodes.{formula_of}
 use Rattle.sc_terms.specs.Counts.{counted, count_after, nodes_over, sum_of}
 use Rattle.sc_terms.specs.Limits.{most_counted}

@@ -1,6 +1,6 @@
 use Rattle.std.proofs.Common.{◌≡◌, ◌∙◌, ℕ, ◌+◌, ◌<◌, List, [], ◌∷◌, ◌++◌, length, length-append, sym, ap, subst, arith}
 use Rattle.sc_formula.specs.declared.node.Node.{Node}
-use Rattle.sc_formula.specs.Nodes.{Tree, IsBelow, tree_of}
+use Rattle.sc_formula.specs.Nodes.{IsBelow, tree_of}
 use Rattle.sc_formula.proofs.Placement.{kind_within}
 use Rattle.sc_terms.specs.Counts.{counted}
 use Rattle.sc_ground.specs.Counting.{IsAlike, count_in, tree_size, node_size}
