@@ -1,11 +1,12 @@
 -- Equal gates are the same, and have one number.
-use Rattle.std.proofs.Common.{◌≡◌, ℕ, Bool, true, false, ◌&&◌, refl, sym, subst, ◌∙◌, List, [], ◌∷◌, ◌++◌, Some, length, ◌≤◌, inl, inr, cond, ap, rules, arith, slice_get}
+use Rattle.std.proofs.Common.{◌≡◌, ℕ, Bool, true, false, ◌&&◌, refl, sym, subst, ◌∙◌, List, [], ◌∷◌, ◌++◌, Some, length, ◌≤◌, inl, inr, cond, ap, rules, arith, slice_get, Contains}
 use Rattle.std.specs.Prelude.{nat_eq}
 use Rattle.std.specs.List.{list_any}
 use Rattle.std.proofs.Math.Bool.{beq}
 use Rattle.std.proofs.lemmas.Bool.{eqb-true, and_parts}
 use Rattle.indexmap.specs.IndexSet.{insert_key}
 use Rattle.sc_formula.proofs.Placement.{slice_get_pushed}
+use Rattle.sc_terms.proofs.Lists.{Contains-none, Contains-cons_cases}
 use Rattle.sc_gates.specs.declared.gate.Literal.{Literal}
 use Rattle.sc_gates.specs.declared.gate.Gate.{Gate}
 use Rattle.sc_gates.specs.declared.gate.Gate.TheVariants.{Yes, No, Input, Both, Either}
@@ -47,11 +48,13 @@ same_gate (Either a b) (Either c d) e = same_two (λ a b. Either a b) a b c d e
 same_gate (Either a b) n e = cc
 
 -- an insertion adds one gate or none
-pub more_by_insert : (old : List Gate) (gate : Gate) → (more : List Gate) × (insert_key (gate_eq.ghosts).eq old gate ≡ old ++ more) × (length more ≤ 1)
+pub more_by_insert : (old : List Gate) (gate : Gate)
+    → (more : List Gate) × (insert_key (gate_eq.ghosts).eq old gate ≡ old ++ more) × (length more ≤ 1) × ((other : Gate) → Contains more other → other ≡ gate)
 more_by_insert old gate =
-    elim (list_any ((gate_eq.ghosts).eq gate) old) as (λ b. (more : List Gate) × (cond b old (old ++ gate ∷ []) ≡ old ++ more) × (length more ≤ 1)) [
-      | true ↦ ([], search rules, omega arith)
-      | false ↦ (gate ∷ [], refl, omega arith)
+    elim (list_any ((gate_eq.ghosts).eq gate) old) as (λ b.
+    (more : List Gate) × (cond b old (old ++ gate ∷ []) ≡ old ++ more) × (length more ≤ 1) × ((other : Gate) → Contains more other → other ≡ gate)) [
+      | true ↦ ([], search rules, omega arith, λ other c. Contains-none other c)
+      | false ↦ (gate ∷ [], refl, omega arith, λ other c. elim (Contains-cons_cases gate [] other c) [ inl e ↦ sym e | inr none ↦ Contains-none other none ])
     ]
 
 placed_pushed : (old : List Gate) (gate : Gate) → ArePlaced old → IsPlaced (length old) gate → ArePlaced (old ++ gate ∷ [])
@@ -85,6 +88,7 @@ added_by old gate new id k all here e at same =
       there = there;
       more = more.0;
       whole = whole;
+      only = more.3;
       means = λ v. value_of-at v new id gate placed there ∙ (ap (λ xs. gate_value v (values_of v xs) gate) whole ∙ gate_value-front v old more.0 gate here);
       kept = λ v k within. ap (λ xs. value_of v xs k) whole ∙ value_of-front v old more.0 k within;
     }

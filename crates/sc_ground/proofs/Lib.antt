@@ -1,11 +1,14 @@
+pub mod Alike
 pub mod AllRounds
 pub mod AppliedTerms
 pub mod Chains
 pub mod Codes
+pub mod CountRounds
 pub mod Fewer
 pub mod Keepers
 pub mod Marks
 pub mod NeededRounds
 pub mod SameTerms
 pub mod Standing
+pub mod TreeSizes
 pub mod WalkLemmas

@@ -1,6 +1,6 @@
 -- Numbers of ground terms among more nodes.
 use Rattle.std.proofs.Common.{◌≡◌, ℕ, suc, zero, ◌+◌, ◌<◌, Bool, true, false, refl, sym, ◌∙◌, List, [], ◌∷◌, ◌++◌, Some, length, get_or, take, ap, subst, arith, append_assoc, append-nil, map, cond}
-use Rattle.std.specs.Prelude.{reverse}
+use Rattle.std.specs.Prelude.{reverse, slice_get}
 use Rattle.std.proofs.lemmas.List.{reverse-append}
 use Rattle.std.specs.List.{flat_map, filter}
 use Rattle.sc_terms.specs.GroundTerms.{GroundTerm, GroundTerms, term_and}
@@ -253,3 +253,13 @@ pub part_listed : {A : Type 0} (h : A → List GroundTerm) (xs : List A) (i : �
     → AreListed (flat_map h (take i xs)) a b p q → AreListed (h x) b d q r → AreListed (flat_map h (take (i + 1) xs)) a d p r
 part_listed h xs i x a b d p q r lt e m n =
     listed_more (flat_map h (take i xs)) (h x) (flat_map h (take (i + 1) xs)) a b d p q r m n (flat_next h xs i x lt ∙ ap (λ y. flat_map h (take i xs) ++ h y) (sym e))
+
+-- the numbers at all places are those of terms
+pub one_there : (nodes : List TermNode) (ids : List ℕ) → AreOnes nodes ids → (k id : ℕ) → slice_get ids k ≡ Some id → IsOne nodes id
+one_there nodes [] ones k id e = cc
+one_there nodes (x ∷ ids) ones zero id e = let same : x ≡ id = cc in let P : ℕ → Type 0 = λ id. IsOne nodes id in subst P same ones.0
+one_there nodes (x ∷ ids) ones (suc k) id e = one_there nodes ids ones.1 k id e
+
+pub ones_there : (nodes : List TermNode) (ids : List ℕ) → ((k id : ℕ) → slice_get ids k ≡ Some id → IsOne nodes id) → AreOnes nodes ids
+ones_there nodes [] h = tt
+ones_there nodes (x ∷ ids) h = (h zero x refl, ones_there nodes ids (λ k id e. h (suc k) id e))

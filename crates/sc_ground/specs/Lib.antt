@@ -1,7 +1,9 @@
 pub mod Applying
 pub mod Basis
 pub mod Codes
+pub mod Counting
 pub mod Keeping
+pub mod Limited
 pub mod Needed
 pub mod Parts
 pub mod Public

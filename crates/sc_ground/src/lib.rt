@@ -11,21 +11,34 @@
 //! - `rounds`: all rounds.
 //! - `term_list`: `Terms`, a list of ground terms.
 //! - `terms`: the terms of a formula.
+//! - `counts`: how many terms of each sort arise.
+//! - `sizes`: how many nodes a formula has where each `forall` is written out.
+//! - `measure`: how large an instantiation is.
+//! - `limited`: [`herbrand`] and [`shallow`], the terms within the limits.
+//! - `ground_err`: `GroundErr`.
 //! - `unique`: lists without the items that stand again.
 #![tactic(auto)]
 
 mod applied;
 mod chain;
+mod counts;
 mod first;
+mod ground_err;
+mod limited;
 mod listing;
+mod measure;
 mod needed;
 mod part;
 mod round;
 mod rounds;
+mod sizes;
 mod term_list;
 mod terms;
 mod unique;
 mod walk;
 
+pub use ground_err::GroundErr;
+pub use limited::{herbrand, shallow};
+pub use listing::of_sort;
 pub use term_list::Terms;
 pub use terms::terms_within;

@@ -60,7 +60,7 @@ fn has_sort(signature: &Signature, terms: &TermArena, id: u32, sort: u32) -> boo
 }
 
 /// The terms of a sort among these.
-pub(crate) fn of_sort(
+pub fn of_sort(
     alloc: Global,
     signature: &Signature,
     terms: &TermArena,

@@ -16,7 +16,7 @@ use sc_term_arena::{TermArena, TermNode};
 use std::alloc::{AllocError, Global};
 
 /// The sort that a function is applied to.
-fn source_of(signature: &Signature, f: u32) -> Option<u32>
+pub(crate) fn source_of(signature: &Signature, f: u32) -> Option<u32>
     ensures { result ≡ source_of signature.now f }
 {
     match signature.funs.get(f as usize) {

@@ -1,7 +1,7 @@
 //! Lists of ground terms.
 
-ghost use Rattle.std.specs.Prelude.{◌≡◌, length};
-ghost use Rattle.sc_ground.specs.TermLists.{terms_in};
+ghost use Rattle.std.specs.Prelude.{◌≡◌, ℕ, Some, length, slice_get};
+ghost use Rattle.sc_term_arena.specs.Nodes.{IsOne};
 
 use sc_term_arena::TermArena;
 
@@ -10,13 +10,25 @@ use sc_term_arena::TermArena;
 pub struct Terms {
     pub(crate) arena: TermArena,
     pub(crate) ids: Vec<u32>,
+    ghost ones: { (k id : ℕ) → slice_get ids.items k ≡ Some id → IsOne arena id },
 }
 
 impl Terms {
+    ghost use Rattle.sc_ground.specs.Standing.{AreTermsAt};
+    ghost use Rattle.sc_ground.specs.TermLists.{terms_in};
+
     /// How many terms there are.
     pub fn len(&self) -> usize
         ensures { result ≡ length (terms_in self.now) }
     {
         self.ids.len()
+    }
+
+    /// Numbered terms, and the numbers of those in the list.
+    pub fn into_parts(self) -> (TermArena, Vec<u32>)
+        ensures { AreTermsAt result.0 result.1.items (terms_in self) }
+    {
+        let Terms { arena, ids } = self;
+        (arena, ids)
     }
 }

@@ -67,6 +67,7 @@ pub(crate) fn basis_of(
 }
 
 /// The terms that arise within so many rounds.
+#[tactic(auto, using(crate::proofs::Standing::one_there))]
 pub(crate) fn terms_from(
     alloc: Global,
     signature: &Signature,

@@ -1,0 +1,18 @@
+use Rattle.std.proofs.Common.{List, subst, sym}
+use Rattle.sc_formula.specs.Nodes.{formula_of}
+use Rattle.sc_terms.specs.GroundTerms.{GroundTerm}
+use Rattle.sc_terms.specs.Listing.{Lists}
+use Rattle.sc_terms.specs.Universe.{IsShallowTerm}
+use Rattle.sc_terms.proofs.CountLaws.{lists_within}
+use Rattle.sc_ground.specs.declared.limited.Limited.{Limited}
+use Rattle.sc_ground.specs.Limited.{IsLimited}
+use Rattle.sc_ground.proofs.limited.shallow.Goals as goal
+
+pub returns-in-Listed-clause-listed : goal.returns-in-Listed-clause-listed
+returns-in-Listed-clause-listed c =
+    let g = c.args.signature.now in
+    let f = formula_of c.args.arena.now c.args.id in
+    let P : List GroundTerm → Type 0 = λ ts. Lists (IsShallowTerm g f) ts in
+    let L : Limited → Type 0 = λ l. IsLimited g f 2 l in
+    let listed = subst L c.in-Listed.is c.in_ok-terms.ensures in
+    subst P (sym listed.0) (lists_within g f c.requires.over 2)

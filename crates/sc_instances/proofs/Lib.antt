@@ -1,0 +1,11 @@
+pub mod BoardLaws
+pub mod InputLaws
+pub mod InstanceLaws
+pub mod ListLaws
+pub mod MakeLaws
+pub mod MaskLaws
+pub mod MemoLaws
+pub mod ReadingLaws
+pub mod ShapeLaws
+pub mod ValueLaws
+pub mod WorkLaws

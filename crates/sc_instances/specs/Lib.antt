@@ -1,0 +1,10 @@
+pub mod Boards
+pub mod GroundAtoms
+pub mod Inputs
+pub mod Instances
+pub mod Lists
+pub mod Made
+pub mod Public
+pub mod Readings
+pub mod Shapes
+pub mod Values
