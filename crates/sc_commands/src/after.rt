@@ -3,7 +3,8 @@
 ghost use Rattle.std.specs.Prelude.{◌≡◌, IfOk, Ok};
 ghost use Rattle.std.specs.Option.{option_map};
 ghost use Rattle.sc_schema.specs.Commands as effect;
-ghost use Rattle.sc_schema.specs.SchemaViews.{command_of, field_info_of, model_info_of, static_info_of};
+ghost use Rattle.sc_schema.specs.SchemaViews.{command_of, field_info_of};
+ghost use Rattle.sc_schema.specs.SchemaViews.{model_info_of, static_info_of};
 ghost use Rattle.sc_schema.specs.Views.{init_of, policy_of};
 ghost use Rattle.sc_typing.specs.Names.{plain_of};
 ghost use Rattle.sc_specs.specs.InTurn.{Becomes, GivesSeen};
@@ -30,7 +31,8 @@ fn copy_given(given: &Given) -> Result<Given, AllocError>
 
 fn after_model(alloc: Global, schema: &Schema, info: &ModelInfo) -> Result<Schema, TypeErr>
     ensures { GivesSeen plain_of
-        (Ok (effect.schema_after (plain_of schema.now) (effect.create_model (model_info_of info.now)))) result }
+        (Ok (effect.schema_after (plain_of schema.now)
+        (effect.create_model (model_info_of info.now)))) result }
 {
     let mut after = copied(alloc, schema)?;
     let info = info.copy(alloc)?;
@@ -40,7 +42,8 @@ fn after_model(alloc: Global, schema: &Schema, info: &ModelInfo) -> Result<Schem
 
 fn after_static(alloc: Global, schema: &Schema, info: &StaticInfo) -> Result<Schema, TypeErr>
     ensures { GivesSeen plain_of
-        (Ok (effect.schema_after (plain_of schema.now) (effect.add_static (static_info_of info.now)))) result }
+        (Ok (effect.schema_after (plain_of schema.now)
+        (effect.add_static (static_info_of info.now)))) result }
 {
     let mut after = copied(alloc, schema)?;
     let info = info.copy(alloc)?;

@@ -18,7 +18,8 @@ use std::alloc::{AllocError, Global};
 /// The static of this name, with the next number of the schema.
 #[tactic(auto, unfolding(sc_typing::specs::Names::plain_of))]
 pub fn next_static(alloc: Global, schema: &Schema, x: &Named) -> Result<StaticInfo, AllocError>
-    ensures { IfOk result (λ info. static_info_of info ≡ rule.next_static (plain_of schema.now) x.now) }
+    ensures { IfOk result (λ info.
+        static_info_of info ≡ rule.next_static (plain_of schema.now) x.now) }
 {
     let name = x.name.copy(alloc)?;
     Ok(StaticInfo {
