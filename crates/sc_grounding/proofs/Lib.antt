@@ -1,0 +1,2 @@
+pub mod AtomsSaid
+pub mod FactsSaid

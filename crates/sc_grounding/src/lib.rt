@@ -1,0 +1,8 @@
+//! The instances of a formula, and the tables by which they are read.
+//!
+//! - `laws`: what holds of the instances of any formula and of any table.
+#![tactic(auto)]
+
+mod laws;
+
+pub use laws::{atoms_agree, inputs_are_facts, readings_agree};
