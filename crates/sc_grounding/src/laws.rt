@@ -1,6 +1,10 @@
 //! What holds of the instances of any formula and of any table.
 
-ghost use Rattle.std.specs.Prelude.{◌≡◌, ◌↔◌, Bool, true, ℕ, List, [], length};
+ghost use Rattle.std.specs.Prelude.{◌≡◌, ◌↔◌, ◌++◌, Bool, true, ℕ, IsTrue, List, [], Contains};
+ghost use Rattle.std.specs.Prelude.{length};
+ghost use Rattle.std.specs.List.{list_all};
+ghost use Rattle.sc_ast.specs.Words.{IsText};
+ghost use Rattle.sc_formula.specs.NormalForm.{IsNormal};
 ghost use Rattle.sc_formula.specs.Over.{IsOver};
 ghost use Rattle.sc_formula.specs.Trees.{Formula};
 ghost use Rattle.sc_formula.specs.declared.node.Node.{Node};
@@ -8,12 +12,22 @@ ghost use Rattle.sc_formula.specs.declared.structure.Signature.{Signature};
 ghost use Rattle.sc_terms.specs.GroundTerms.{GroundTerm, no_terms};
 ghost use Rattle.sc_terms.specs.Reading.{Reads};
 ghost use Rattle.sc_term_arena.specs.declared.node.TermNode.{TermNode};
-ghost use Rattle.sc_tables.specs.Facts.{Assignment, table_for};
+ghost use Rattle.sc_gates.specs.Clauses.{meets_clause};
+ghost use Rattle.sc_gates.specs.Gates.{ArePlaced};
+ghost use Rattle.sc_gates.specs.declared.gate.Literal.{Literal};
+ghost use Rattle.sc_terms.specs.Passing.{IsSatisfiableOver};
+ghost use Rattle.sc_tables.specs.Clauses.{base_clauses, congruence_clauses};
+ghost use Rattle.sc_tables.specs.Facts.{Assignment, Fact, is_met, table_for};
+ghost use Rattle.sc_tables.specs.Models.{IsLawful, Model, assignment_of};
+ghost use Rattle.sc_tables.specs.Vocabulary.{IsVocabulary, Vocabulary};
 ghost use Rattle.sc_tables.specs.Table.{Table, holds, is_there};
 ghost use Rattle.sc_instances.specs.GroundAtoms.{GroundAtom, holds_at};
 ghost use Rattle.sc_instances.specs.Inputs.{input_value};
+ghost use Rattle.sc_instances.specs.Made.{AreInstancesOf};
 ghost use Rattle.sc_instances.specs.Readings.{reading};
 ghost use Rattle.sc_instances.specs.declared.input.Input.{Input};
+ghost use Rattle.sc_instances.specs.declared.instantiation.Instances.{Instances};
+ghost use Rattle.sc_grounding.specs.GroundClauses.{AreGroundClauses, AreNumbered, HaveFacts};
 ghost use Rattle.sc_grounding.specs.Says.{says};
 ghost use Rattle.sc_grounding.specs.InputFacts.{are_facts, atom_facts, input_facts};
 
@@ -46,4 +60,46 @@ pub fn inputs_are_facts()
     ensures inputs { (nodes : List Node) (terms : List TermNode) (a : Assignment) (input : Input) →
         input_value nodes terms (is_there (table_for a)) (says (table_for a)) input
         ≡ are_facts a (input_facts nodes terms input) }
+{}
+
+/// Where the variables of facts have the values that an assignment gives these, and meet the
+/// clauses, the assignment meets those of tables and the formula is read by it; and where it is so,
+/// there are such values.
+pub fn ground_clauses_are_readings()
+    ensures sound { (g : Signature) (f : Formula) (terms : List GroundTerm) (v : Vocabulary)
+        (nodes : List Node) (made : Instances) (facts : List Fact) (variable : Fact → ℕ)
+        (clauses : List (List Literal)) (a : Assignment) (values : ℕ → Bool) →
+        IsOver g [] f → AreInstancesOf g nodes f terms made → ArePlaced made.gates →
+        AreNumbered g v nodes made facts variable →
+        AreGroundClauses g v nodes made facts variable clauses →
+        HaveFacts made facts a values → IsTrue (list_all (meets_clause values) clauses) →
+        IsTrue (list_all (is_met a) (base_clauses g v ++ congruence_clauses g v))
+        × Reads g (is_there (table_for a)) (holds (table_for a)) terms 0 [] no_terms f }
+    ensures complete { (g : Signature) (f : Formula) (terms : List GroundTerm) (v : Vocabulary)
+        (nodes : List Node) (made : Instances) (facts : List Fact) (variable : Fact → ℕ)
+        (clauses : List (List Literal)) (a : Assignment) →
+        IsOver g [] f → AreInstancesOf g nodes f terms made → ArePlaced made.gates →
+        AreNumbered g v nodes made facts variable →
+        AreGroundClauses g v nodes made facts variable clauses →
+        IsTrue (list_all (is_met a) (base_clauses g v ++ congruence_clauses g v)) →
+        Reads g (is_there (table_for a)) (holds (table_for a)) terms 0 [] no_terms f →
+        (values : ℕ → Bool) × HaveFacts made facts a values
+        × IsTrue (list_all (meets_clause values) clauses) }
+{}
+
+/// Some structure passes a formula over a list of terms exactly where decision procedures find a
+/// lawful model, and a search values that meet the clauses, in which facts are as in the model.
+pub fn ground_clauses_are_complete()
+    ensures { (g : Signature) (f : Formula) (terms : List GroundTerm) (v : Vocabulary)
+        (texts : List (List ℕ)) (nodes : List Node) (made : Instances) (facts : List Fact)
+        (variable : Fact → ℕ) (clauses : List (List Literal)) →
+        IsOver g [] f → IsNormal f → IsVocabulary g f terms v →
+        ((w : List ℕ) → Contains texts w → IsText w) →
+        AreInstancesOf g nodes f terms made → ArePlaced made.gates →
+        AreNumbered g v nodes made facts variable →
+        AreGroundClauses g v nodes made facts variable clauses →
+        (IsSatisfiableOver g f (Contains terms) ↔ ((spare : ℕ → List ℕ) × (m : Model)
+        × (values : ℕ → Bool) × IsLawful g texts spare m v
+        × HaveFacts made facts (assignment_of g texts spare m) values
+        × IsTrue (list_all (meets_clause values) clauses))) }
 {}

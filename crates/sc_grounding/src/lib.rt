@@ -5,4 +5,7 @@
 
 mod laws;
 
-pub use laws::{atoms_agree, inputs_are_facts, readings_agree};
+pub use laws::{
+    atoms_agree, ground_clauses_are_complete, ground_clauses_are_readings, inputs_are_facts,
+    readings_agree,
+};
