@@ -1,14 +1,14 @@
 -- What a table says of the atoms of a formula, at the values of its terms.
-use Rattle.std.proofs.Common.{◌≡◌, ℕ, zero, suc, ◌+◌, inl, inr, Bool, true, not, refl, sym, ◌∙◌, List, [], ◌∷◌, ◌++◌, Some, None, Option, length, ap, arith, slice_get, Contains, length-append}
-use Rattle.std.specs.Prelude.{option_and_then, int_lt, is_some, slice_index_or, ◌↔◌}
+use Rattle.std.proofs.Common.{◌≡◌, ℕ, zero, suc, ◌+◌, inl, inr, Bool, true, not, refl, sym, ◌∙◌, List, [], ◌∷◌, ◌++◌, Some, length, ap, arith, slice_get, length-append}
+use Rattle.std.specs.Prelude.{option_and_then, int_lt, is_some, slice_index_or}
 use Rattle.std.specs.Option.{option_map}
 use Rattle.sc_formula.specs.declared.structure.Range.{Range}
-use Rattle.sc_formula.specs.declared.structure.Range.TheVariants.{Rec, Num, Str}
+use Rattle.sc_formula.specs.declared.structure.Range.TheVariants.{Rec, Num}
 use Rattle.sc_formula.specs.declared.structure.Signature.{Signature}
 use Rattle.sc_formula.specs.Over.{IsOver, HasRange}
 use Rattle.sc_formula.specs.Trees.{Term, Formula, bound, num, str, app, yes, no, equal, less, has, flag, present, negation, both, either, exists, forall}
 use Rattle.sc_formula.specs.Truth.{are_equal, both_pass, number_of, is_true_value}
-use Rattle.sc_terms.specs.GroundTerms.{GroundTerm, GroundTerms, constant, skolem, field, and_last, sort_of, no_terms}
+use Rattle.sc_terms.specs.GroundTerms.{GroundTerm, GroundTerms, constant, skolem, field, and_last, no_terms}
 use Rattle.sc_terms.specs.Parts.{quantifiers}
 use Rattle.sc_terms.specs.Reading.{Reads}
 use Rattle.sc_tables.specs.Vocabulary.{term_at}

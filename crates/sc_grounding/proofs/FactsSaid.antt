@@ -6,11 +6,11 @@ use Rattle.std.specs.Option.{option_map}
 use Rattle.sc_formula.specs.declared.structure.SVal.{SVal}
 use Rattle.sc_formula.specs.declared.node.Node.{Node}
 use Rattle.sc_formula.specs.Truth.{are_equal, both_pass, number_of, is_raised, is_true_value}
-use Rattle.sc_terms.specs.GroundTerms.{GroundTerm, field}
+use Rattle.sc_terms.specs.GroundTerms.{GroundTerm}
 use Rattle.sc_term_arena.specs.declared.node.TermNode.{TermNode}
 use Rattle.sc_term_arena.specs.Nodes.{term_of}
 use Rattle.sc_tables.specs.Table.{Table, is_there}
-use Rattle.sc_tables.specs.Facts.{Noun, term, number as number_noun, text as text_noun, Fact, there, same, below, raised, there_of, facts_of_pair, Assignment, table_for, noun_value, is_fact}
+use Rattle.sc_tables.specs.Facts.{Noun, Fact, there, same, below, raised, there_of, facts_of_pair, Assignment, table_for, noun_value, is_fact}
 use Rattle.sc_instances.specs.GroundAtoms.{GroundValue, named, number, text, GroundAtom, equal_values, less_value, related, flagged, present_at}
 use Rattle.sc_instances.specs.Inputs.{value_at, input_value}
 use Rattle.sc_instances.specs.declared.input.Input.{Input}

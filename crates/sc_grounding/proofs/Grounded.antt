@@ -1,7 +1,7 @@
 -- The clauses of instances over a table.
-use Rattle.std.proofs.Common.{◌≡◌, ℕ, ◌+◌, ◌-◌, ◌<◌, ◌≤◌, Bool, true, false, not, ◌||◌, inl, inr, refl, sym, ◌∙◌, List, [], ◌∷◌, ◌++◌, Some, None, Option, length, cond, ap, subst, arith, slice_get, Contains}
+use Rattle.std.proofs.Common.{◌≡◌, ℕ, ◌+◌, ◌-◌, ◌<◌, ◌≤◌, Bool, true, false, ◌||◌, inl, inr, refl, sym, ◌∙◌, List, [], ◌∷◌, ◌++◌, Some, None, Option, length, cond, ap, subst, arith, slice_get, Contains}
 use Rattle.std.specs.Prelude.{IsTrue, nat_lt}
-use Rattle.std.specs.List.{list_all, list_any}
+use Rattle.std.specs.List.{list_all}
 use Rattle.std.proofs.lemmas.Bool.Decides.{nat_tests}
 use Rattle.std.proofs.lemmas.Option.{slice_get_within}
 use Rattle.sc_ast.specs.Words.{IsText}
@@ -14,7 +14,7 @@ use Rattle.sc_gates.specs.declared.gate.Gate.{Gate}
 use Rattle.sc_gates.specs.declared.gate.Gate.TheVariants.{Yes, No, Input as Leaf, Both, Either}
 use Rattle.sc_gates.specs.declared.gate.Literal.{Literal}
 use Rattle.sc_gates.specs.Gates.{ArePlaced, value_of}
-use Rattle.sc_gates.specs.Clauses.{HasInputBelow, HaveInputsBelow, Meets, gate_clauses, is_true, meets_clause}
+use Rattle.sc_gates.specs.Clauses.{HasInputBelow, HaveInputsBelow, is_true, meets_clause}
 use Rattle.sc_gates.proofs.Encoding.{sound, complete}
 use Rattle.sc_terms.specs.GroundTerms.{GroundTerm, no_terms}
 use Rattle.sc_terms.specs.Passing.{IsSatisfiableOver}
@@ -23,18 +23,17 @@ use Rattle.sc_terms.proofs.Kept.{list_all-from}
 use Rattle.sc_terms.proofs.Lists.{list_all-Contains}
 use Rattle.sc_tables.specs.Vocabulary.{Vocabulary, IsVocabulary}
 use Rattle.sc_tables.specs.Table.{Table, holds, is_there}
-use Rattle.sc_tables.specs.Facts.{Fact, Assignment, Clause, is_fact, is_met, table_for}
+use Rattle.sc_tables.specs.Facts.{Fact, Assignment, is_fact, is_met, table_for}
 use Rattle.sc_tables.specs.Clauses.{base_clauses, congruence_clauses}
 use Rattle.sc_tables.specs.Models.{Model, IsLawful, assignment_of}
 use Rattle.sc_tables.proofs.Modeled.{modeled, from_modeled}
-use Rattle.sc_instances.specs.GroundAtoms.{holds_at}
 use Rattle.sc_instances.specs.Inputs.{AreInputsOf, input_value, atom_value}
 use Rattle.sc_instances.specs.Made.{AreInstancesOf}
 use Rattle.sc_instances.specs.declared.input.Input.{Input}
 use Rattle.sc_instances.specs.declared.instantiation.Instances.{Instances}
 use Rattle.sc_grounding.specs.Says.{says}
-use Rattle.sc_grounding.specs.InputFacts.{are_facts, input_facts}
-use Rattle.sc_grounding.specs.GroundClauses.{clause_for, tie_clauses, first_gate, HaveFacts, IsNumbered, AreNumbered, IsGroundClause, AreGroundClauses}
+use Rattle.sc_grounding.specs.InputFacts.{input_facts}
+use Rattle.sc_grounding.specs.GroundClauses.{first_gate, HaveFacts, AreGroundClauses}
 use Rattle.sc_grounding.proofs.AtomsSaid.{reads_said, said_reads}
 use Rattle.sc_grounding.proofs.FactsSaid.{input_is}
 use Rattle.sc_grounding.proofs.Tied.{tied_value, tie_met, clause_value}
@@ -57,9 +56,9 @@ fact_value : Assignment → Option Fact → Bool
 fact_value a None = false
 fact_value a (Some p) = is_fact a p
 
-module _ (g : Signature) (f : Formula) (terms : List GroundTerm) (v : Vocabulary) (nodes : List Node) (made : Instances) (facts : List Fact) (variable : Fact → ℕ)
+module _ (g : Signature) (f : Formula) (terms : List GroundTerm) (v : Vocabulary) (nodes : List Node) (made : Instances) (facts : List Fact)
     (clauses : List (List Literal)) (over : IsOver g [] f) (instances : AreInstancesOf g nodes f terms made) (placed : ArePlaced made.gates)
-    (numbered : AreNumbered g v nodes made facts variable) (listed : AreGroundClauses g v nodes made facts variable clauses) (a : Assignment) where
+    (listed : AreGroundClauses made facts g v nodes clauses) (a : Assignment) where
   abbrev T : Table
   T = table_for a
 
@@ -75,23 +74,20 @@ module _ (g : Signature) (f : Formula) (terms : List GroundTerm) (v : Vocabulary
   abbrev DoMeet : (ℕ → Bool) → Type 0
   DoMeet values = IsTrue (list_all (meets_clause values) clauses)
 
-  has_value : (values : ℕ → Bool) → HaveFacts made facts a values → (p : Fact) → IsNumbered made facts variable p → values (variable p) ≡ is_fact a p
-  has_value values have p (k, at, is) = ap values is ∙ have k p at
-
   module _ (values : ℕ → Bool) (have : HaveFacts made facts a values) (meet : DoMeet values) where
-    met : (clause : List Literal) → IsGroundClause g v nodes made facts variable clause → meets_clause values clause ≡ true
-    met clause is = list_all-Contains (meets_clause values) clauses clause meet ((listed clause).1 is)
+    met : (clause : List Literal) → Contains clauses clause → meets_clause values clause ≡ true
+    met clause c = list_all-Contains (meets_clause values) clauses clause meet c
 
     inputs_are : AreInputsOf nodes made.terms (is_there T) (says T) made.inputs values
     inputs_are k i at =
-        tied_value a variable values k (input_facts nodes made.terms i) (λ ps p e c. has_value values have p (numbered.inputs k i ps p at e c))
-        (λ clause c. met clause (inl (inr (k, i, at, c))))
+        let own = listed.ties k i at in
+        tied_value made facts a values have k (input_facts nodes made.terms i) own.0 own.1 (λ clause c. met clause (own.2 clause c))
         ∙ sym (input_is a nodes made.terms i)
 
     root_true : value_of values made.gates made.root ≡ true
     root_true =
-        sound made.gates base values placed (λ k gate clause at c. met clause (inl (inl (k, gate, at, c)))) made.root instances.there
-        (one_only (values (base + made.root)) (met (is_true (base + made.root) ∷ []) (inr (inr refl))))
+        sound made.gates base values placed (λ k gate clause at c. met clause (listed.gates clause (k, gate, at, c))) made.root instances.there
+        (one_only (values (base + made.root)) (met (is_true (base + made.root) ∷ []) listed.root))
 
     pub met_read : IsRead
     met_read = said_reads g f terms T over ((instances.reads (is_there T) (says T) values inputs_are).0 root_true)
@@ -99,9 +95,7 @@ module _ (g : Signature) (f : Formula) (terms : List GroundTerm) (v : Vocabulary
     pub met_tables : AreMet
     met_tables =
         list_all-from (is_met a) (base_clauses g v ++ congruence_clauses g v)
-        (λ c here.
-        sym (clause_value a variable values c (λ l in_clause. has_value values have l.fact (numbered.tables c l here in_clause)))
-        ∙ met (clause_for variable c) (inr (inl (c, here, refl))))
+        (λ c here. let own = listed.tables c here in sym (clause_value made facts a values have own.0 c own.1) ∙ met own.0 own.2)
 
   -- the values of inputs and facts
   own : ℕ → Bool
@@ -151,23 +145,21 @@ module _ (g : Signature) (f : Formula) (terms : List GroundTerm) (v : Vocabulary
         have,
         list_all-from (meets_clause values) clauses
             (λ clause here.
-            elim ((listed clause).0 here) [
+            elim (listed.only clause here) [
               | inl (inl (k, gate, at, c)) ↦ gates k gate clause at c
-              | inl (inr (k, i, at, c)) ↦
-                  tie_met a variable values k (input_facts nodes made.terms i) (λ ps p e c. has_value values have p (numbered.inputs k i ps p at e c))
+              | inl (inr (k, i, ties, at, own_ties, c)) ↦
+                  tie_met made facts a values have k (input_facts nodes made.terms i) ties own_ties
                   (kept k (omega (arith, slice_get_within made.inputs k i at)) ∙ (own_input k i at ∙ input_is a nodes made.terms i)) clause c
               | inr (inl (c, c_here, is)) ↦
-                  subst P (sym is)
-                  (clause_value a variable values c (λ l in_clause. has_value values have l.fact (numbered.tables c l c_here in_clause))
-                  ∙ list_all-Contains (is_met a) (base_clauses g v ++ congruence_clauses g v) c tables c_here)
+                  clause_value made facts a values have clause c is ∙ list_all-Contains (is_met a) (base_clauses g v ++ congruence_clauses g v) c tables c_here
               | inr (inr is) ↦ subst P (sym is) (ap (λ b. b || false) root)
             ]),
       )
 
 module _ (g : Signature) (f : Formula) (terms : List GroundTerm) (v : Vocabulary) (texts : List (List ℕ)) (nodes : List Node) (made : Instances) (facts : List Fact)
-    (variable : Fact → ℕ) (clauses : List (List Literal)) (over : IsOver g [] f) (normal : IsNormal f) (words : IsVocabulary g f terms v)
+    (clauses : List (List Literal)) (over : IsOver g [] f) (normal : IsNormal f) (words : IsVocabulary g f terms v)
     (are : (w : List ℕ) → Contains texts w → IsText w) (instances : AreInstancesOf g nodes f terms made) (placed : ArePlaced made.gates)
-    (numbered : AreNumbered g v nodes made facts variable) (listed : AreGroundClauses g v nodes made facts variable clauses) where
+    (listed : AreGroundClauses made facts g v nodes clauses) where
   abbrev IsGrounded : Type 0
   IsGrounded = (spare : ℕ → List ℕ) × (m : Model) × (values : ℕ → Bool) × IsLawful g texts spare m v × HaveFacts made facts (assignment_of g texts spare m) values
       × IsTrue (list_all (meets_clause values) clauses)
@@ -176,7 +168,7 @@ module _ (g : Signature) (f : Formula) (terms : List GroundTerm) (v : Vocabulary
   grounded s =
       let (spare, m, law, met, read) = modeled g f terms v over normal words texts are s in
       let a : Assignment = assignment_of g texts spare m in
-      let (values, have, meet) = read_met g f terms v nodes made facts variable clauses over instances placed numbered listed a met read in
+      let (values, have, meet) = read_met g f terms v nodes made facts clauses over instances placed listed a met read in
       (spare, m, values, law, have, meet)
 
   pub from_grounded : IsGrounded → IsSatisfiableOver g f (Contains terms)
@@ -186,6 +178,6 @@ module _ (g : Signature) (f : Formula) (terms : List GroundTerm) (v : Vocabulary
         spare,
         m,
         law,
-        met_tables g f terms v nodes made facts variable clauses over instances placed numbered listed a values have meet,
-        met_read g f terms v nodes made facts variable clauses over instances placed numbered listed a values have meet,
+        met_tables g f terms v nodes made facts clauses over instances placed listed a values have meet,
+        met_read g f terms v nodes made facts clauses over instances placed listed a values have meet,
       )

@@ -7,9 +7,10 @@ use Rattle.sc_gates.specs.Clauses.{is_true, is_false, meets_clause}
 use Rattle.sc_terms.proofs.Kept.{list_all-from}
 use Rattle.sc_terms.proofs.Listed.{to_map, in_map}
 use Rattle.sc_terms.proofs.Lists.{Contains-head, Contains-tail, Contains-cons_cases, Contains-none, list_all-Contains}
-use Rattle.sc_tables.specs.Facts.{Fact, Assignment, Literal as FactLiteral, Clause, is_fact, is_literal, is_met}
+use Rattle.sc_tables.specs.Facts.{Fact, Assignment, Clause, is_fact, is_met}
+use Rattle.sc_instances.specs.declared.instantiation.Instances.{Instances}
 use Rattle.sc_grounding.specs.InputFacts.{are_facts}
-use Rattle.sc_grounding.specs.GroundClauses.{literal_for, clause_for, tie_clauses}
+use Rattle.sc_grounding.specs.GroundClauses.{tie_clauses, HaveFacts, IsVariable, AreVariables, IsClauseFor, AreTies}
 
 one_truth : (a b : Bool) → (a ≡ true → b ≡ true) → (b ≡ true → a ≡ true) → a ≡ b
 one_truth true b p q = sym (p refl)
@@ -43,65 +44,86 @@ not_either true b e = refl
 not_either false true e = cc
 not_either false false e = refl
 
-module _ (a : Assignment) (variable : Fact → ℕ) (values : ℕ → Bool) where
-  abbrev Has : Fact → Type 0
-  Has p = values (variable p) ≡ is_fact a p
+one_all : (p b q c : Bool) → p ≡ b → q ≡ c → (p && q) ≡ (b && c)
+one_all p b q c e d = ap (λ x. x && q) e ∙ ap (λ x. b && x) d
 
-  negated : (p b : Bool) (rest : List Fact) → list_any (literal_value values) (map (λ p. is_false (variable p)) rest) ≡ not (list_all (is_fact a) rest) → p ≡ b
-      → (not p || list_any (literal_value values) (map (λ p. is_false (variable p)) rest)) ≡ not (b && list_all (is_fact a) rest)
-  negated true true rest h e = h
-  negated true false rest h e = cc
-  negated false true rest h e = cc
-  negated false false rest h e = refl
+one_any : (p q : Bool) → (not p || not q) ≡ not (p && q)
+one_any true q = refl
+one_any false q = refl
 
-  negations : (ps : List Fact) → ((p : Fact) → Contains ps p → Has p)
-      → list_any (literal_value values) (map (λ p. is_false (variable p)) ps) ≡ not (list_all (is_fact a) ps)
-  negations [] h = refl
-  negations (p ∷ ps) h =
-      negated (values (variable p)) (is_fact a p) ps (negations ps (λ q c. h q (Contains-tail p ps q c))) (h p (Contains-head p ps))
+one_literal : (x y s t r r' : Bool) → x ≡ y → s ≡ t → r ≡ r' → (cond s x (not x) || r) ≡ (cond t y (not y) || r')
+one_literal x y s t r r' e d h =
+    ap (λ x. cond s x (not x) || r) e ∙ (ap (λ s. cond s y (not y) || r) d ∙ ap (λ r. cond t y (not y) || r) h)
+
+module _ (values : ℕ → Bool) where
+  negations : (xs : List ℕ) → list_any (literal_value values) (map is_false xs) ≡ not (list_all values xs)
+  negations [] = refl
+  negations (x ∷ xs) = ap (λ b. not (values x) || b) (negations xs) ∙ one_any (values x) (list_all values xs)
+
+  module _ (k : ℕ) (xs : List ℕ) where
+    abbrev whole : List Literal
+    whole = is_true k ∷ map is_false xs
+
+    abbrev part : ℕ → List Literal
+    part x = is_false k ∷ is_true x ∷ []
+
+    ties_value : ((clause : List Literal) → Contains (tie_clauses k xs) clause → meets_clause values clause ≡ true) → values k ≡ list_all values xs
+    ties_value met =
+        one_truth (values k) (list_all values xs)
+        (λ on.
+        list_all-from values xs
+        (λ x c. follows (values k) (values x) (met (part x) (Contains-tail whole (map part xs) (part x) (to_map part xs x c))) on))
+        (λ all.
+        either_not (values k) (list_all values xs) (ap (λ b. values k || b) (sym (negations xs)) ∙ met whole (Contains-head whole (map part xs))) all)
+
+    ties_met : values k ≡ list_all values xs → (clause : List Literal) → Contains (tie_clauses k xs) clause → meets_clause values clause ≡ true
+    ties_met e clause c =
+        let P : List Literal → Type 0 = λ clause. meets_clause values clause ≡ true in
+        elim (Contains-cons_cases whole (map part xs) clause c) [
+          | inl same ↦ subst P same (ap (λ b. values k || b) (negations xs) ∙ not_either (values k) (list_all values xs) e)
+          | inr later ↦
+              let own = in_map part xs clause later in
+              subst P own.2 (following (values k) (values own.0) (λ on. list_all-Contains values xs own.0 (sym e ∙ on) own.1))
+        ]
+
+module _ (made : Instances) (facts : List Fact) (a : Assignment) (values : ℕ → Bool) (have : HaveFacts made facts a values) where
+  has_value : (x : ℕ) (p : Fact) → IsVariable made facts x p → values x ≡ is_fact a p
+  has_value x p (k, at, is) = ap values is ∙ have k p at
+
+  have_values : (xs : List ℕ) (ps : List Fact) → AreVariables made facts xs ps → list_all values xs ≡ list_all (is_fact a) ps
+  have_values [] [] h = refl
+  have_values [] (p ∷ ps) h = absurd h
+  have_values (x ∷ xs) [] h = absurd h
+  have_values (x ∷ xs) (p ∷ ps) h =
+      one_all (values x) (is_fact a p) (list_all values xs) (list_all (is_fact a) ps) (has_value x p h.0) (have_values xs ps h.1)
 
   -- an input is tied to its facts
-  pub tied_value : (k : ℕ) (o : Option (List Fact)) → ((ps : List Fact) (p : Fact) → o ≡ Some ps → Contains ps p → Has p)
-      → ((clause : List Literal) → Contains (tie_clauses variable k o) clause → meets_clause values clause ≡ true) → values k ≡ are_facts a o
-  tied_value k None h met = only_false (values k) (met (is_false k ∷ []) (Contains-head (is_false k ∷ []) []))
-  tied_value k (Some ps) h met =
-      let has : (p : Fact) → Contains ps p → Has p = λ p c. h ps p refl c in
-      let whole : List Literal = is_true k ∷ map (λ p. is_false (variable p)) ps in
-      let parts : List (List Literal) = map (λ p. is_false k ∷ is_true (variable p) ∷ []) ps in
-      let first : (values k || not (list_all (is_fact a) ps)) ≡ true = ap (λ b. values k || b) (sym (negations ps has)) ∙ met whole (Contains-head whole parts) in
-      one_truth (values k) (list_all (is_fact a) ps)
-      (λ on.
-      list_all-from (is_fact a) ps
-      (λ p c.
-      let clause : List Literal = is_false k ∷ is_true (variable p) ∷ [] in
-      let here = to_map (λ p. is_false k ∷ is_true (variable p) ∷ []) ps p c in
-      sym (has p c) ∙ follows (values k) (values (variable p)) (met clause (Contains-tail whole parts clause here)) on))
-      (λ all. either_not (values k) (list_all (is_fact a) ps) first all)
+  pub tied_value : (k : ℕ) (o : Option (List Fact)) (ties : List (List Literal)) → AreTies made facts k o ties
+      → ((clause : List Literal) → Contains ties clause → meets_clause values clause ≡ true) → values k ≡ are_facts a o
+  tied_value k None ties e met =
+      let P : List (List Literal) → Type 0 = λ ties. (clause : List Literal) → Contains ties clause → meets_clause values clause ≡ true in
+      only_false (values k) (subst P e met (is_false k ∷ []) (Contains-head (is_false k ∷ []) []))
+  tied_value k (Some ps) ties (xs, are, e) met =
+      let P : List (List Literal) → Type 0 = λ ties. (clause : List Literal) → Contains ties clause → meets_clause values clause ≡ true in
+      ties_value values k xs (subst P e met) ∙ have_values xs ps are
 
-  pub tie_met : (k : ℕ) (o : Option (List Fact)) → ((ps : List Fact) (p : Fact) → o ≡ Some ps → Contains ps p → Has p) → values k ≡ are_facts a o
-      → (clause : List Literal) → Contains (tie_clauses variable k o) clause → meets_clause values clause ≡ true
-  tie_met k None h e clause c =
+  pub tie_met : (k : ℕ) (o : Option (List Fact)) (ties : List (List Literal)) → AreTies made facts k o ties → values k ≡ are_facts a o
+      → (clause : List Literal) → Contains ties clause → meets_clause values clause ≡ true
+  tie_met k None ties is e clause c =
       let P : List Literal → Type 0 = λ clause. meets_clause values clause ≡ true in
-      elim (Contains-cons_cases (is_false k ∷ []) [] clause c) [
+      let Q : List (List Literal) → Type 0 = λ ties. Contains ties clause in
+      elim (Contains-cons_cases (is_false k ∷ []) [] clause (subst Q is c)) [
         | inl same ↦ subst P same (false_only (values k) e)
         | inr none ↦ Contains-none clause none
       ]
-  tie_met k (Some ps) h e clause c =
-      let has : (p : Fact) → Contains ps p → Has p = λ p c. h ps p refl c in
-      let P : List Literal → Type 0 = λ clause. meets_clause values clause ≡ true in
-      let whole : List Literal = is_true k ∷ map (λ p. is_false (variable p)) ps in
-      let parts : List (List Literal) = map (λ p. is_false k ∷ is_true (variable p) ∷ []) ps in
-      elim (Contains-cons_cases whole parts clause c) [
-        | inl same ↦ subst P same (ap (λ b. values k || b) (negations ps has) ∙ not_either (values k) (list_all (is_fact a) ps) e)
-        | inr later ↦
-            let own = in_map (λ p. is_false k ∷ is_true (variable p) ∷ []) ps clause later in
-            subst P own.2
-            (following (values k) (values (variable own.0)) (λ on. has own.0 own.1 ∙ list_all-Contains (is_fact a) ps own.0 (sym e ∙ on) own.1))
-      ]
+  tie_met k (Some ps) ties (xs, are, is) e clause c =
+      let Q : List (List Literal) → Type 0 = λ ties. Contains ties clause in
+      ties_met values k xs (e ∙ sym (have_values xs ps are)) clause (subst Q is c)
 
   -- a clause on facts
-  pub clause_value : (clause : Clause) → ((l : FactLiteral) → Contains clause l → Has l.fact) → meets_clause values (clause_for variable clause) ≡ is_met a clause
-  clause_value [] h = refl
-  clause_value (l ∷ clause) h =
-      ap (λ b. cond l.sign b (not b) || meets_clause values (clause_for variable clause)) (h l (Contains-head l clause))
-      ∙ ap (λ b. is_literal a l || b) (clause_value clause (λ l' c. h l' (Contains-tail l clause l' c)))
+  pub clause_value : (clause : List Literal) (c : Clause) → IsClauseFor made facts clause c → meets_clause values clause ≡ is_met a c
+  clause_value [] [] h = refl
+  clause_value [] (p ∷ ps) h = absurd h
+  clause_value (l ∷ ls) [] h = absurd h
+  clause_value (l ∷ ls) (p ∷ ps) h =
+      one_literal (values l.var) (is_fact a p.fact) l.plus p.sign (meets_clause values ls) (is_met a ps) (has_value l.var p.fact h.0) h.1 (clause_value ls ps h.2)

@@ -1,68 +1,73 @@
 -- The clauses that say that a formula holds at ground terms: variables are the inputs of its instances, facts and gates.
-use Rattle.std.specs.Prelude.{◌≡◌, ℕ, ◌+◌, Bool, ◌⊎◌, ◌↔◌, List, [], ◌∷◌, ◌++◌, Option, None, Some, map, length, Contains, slice_get}
+use Rattle.std.specs.Prelude.{◌≡◌, ℕ, ◌+◌, Bool, ◌⊎◌, List, [], ◌∷◌, ◌++◌, Option, None, Some, map, length, Contains, slice_get}
 use Rattle.sc_formula.specs.declared.node.Node.{Node}
 use Rattle.sc_formula.specs.declared.structure.Signature.{Signature}
 use Rattle.sc_gates.specs.declared.gate.Gate.{Gate}
 use Rattle.sc_gates.specs.declared.gate.Literal.{Literal}
 use Rattle.sc_gates.specs.Clauses.{is_true, is_false, gate_clauses}
 use Rattle.sc_tables.specs.Vocabulary.{Vocabulary}
-use Rattle.sc_tables.specs.Facts.{Fact, Assignment, Literal as FactLiteral, Clause, is_fact}
+use Rattle.sc_tables.specs.Facts.{Fact, Assignment, Clause, is_fact}
 use Rattle.sc_tables.specs.Clauses.{base_clauses, congruence_clauses}
 use Rattle.sc_instances.specs.declared.input.Input.{Input}
 use Rattle.sc_instances.specs.declared.instantiation.Instances.{Instances}
 use Rattle.sc_grounding.specs.InputFacts.{input_facts}
 
-module _ (variable : Fact → ℕ) where
-  -- a clause on facts, where each has this variable
-  abbrev pub literal_for : FactLiteral → Literal
-  literal_for l = record { var = variable l.fact; plus = l.sign }
+-- a variable is true exactly where all of these are
+abbrev pub tie_clauses : ℕ → List ℕ → List (List Literal)
+tie_clauses k xs = (is_true k ∷ map is_false xs) ∷ map (λ x. is_false k ∷ is_true x ∷ []) xs
 
-  abbrev pub clause_for : Clause → List Literal
-  clause_for clause = map literal_for clause
+module _ (made : Instances) (facts : List Fact) where
+  -- the inputs are the first variables, then come the facts of a list, and then the gates
+  abbrev pub first_gate : ℕ
+  first_gate = length made.inputs + length facts
 
-  -- the input of this variable is true exactly where there are facts, and all of them are true
-  abbrev pub tie_clauses : ℕ → Option (List Fact) → List (List Literal)
-  tie_clauses k None = (is_false k ∷ []) ∷ []
-  tie_clauses k (Some facts) =
-      (is_true k ∷ map (λ p. is_false (variable p)) facts) ∷ map (λ p. is_false k ∷ is_true (variable p) ∷ []) facts
+  -- the variables of facts have the values that an assignment gives these
+  abbrev pub HaveFacts : Assignment → (ℕ → Bool) → Type 0
+  HaveFacts a values = (k : ℕ) (p : Fact) → slice_get facts k ≡ Some p → values (length made.inputs + k) ≡ is_fact a p
 
--- the inputs are the first variables, then come the facts of a list, and then the gates
-abbrev pub first_gate : Instances → List Fact → ℕ
-first_gate made facts = length made.inputs + length facts
+  -- the variable is one of the fact; and those of two lists, one by one
+  abbrev pub IsVariable : ℕ → Fact → Type 0
+  IsVariable x p = (k : ℕ) × (slice_get facts k ≡ Some p) × (x ≡ length made.inputs + k)
 
--- the variables of facts have the values that an assignment gives these
-abbrev pub HaveFacts : Instances → List Fact → Assignment → (ℕ → Bool) → Type 0
-HaveFacts made facts a values = (k : ℕ) (p : Fact) → slice_get facts k ≡ Some p → values (length made.inputs + k) ≡ is_fact a p
+  abbrev pub AreVariables : List ℕ → List Fact → Type 0
+  AreVariables [] [] = Unit {0}
+  AreVariables [] (p ∷ ps) = ⊥
+  AreVariables (x ∷ xs) [] = ⊥
+  AreVariables (x ∷ xs) (p ∷ ps) = IsVariable x p × AreVariables xs ps
 
--- a fact is in the list, and has its variable
-abbrev pub IsNumbered : Instances → List Fact → (Fact → ℕ) → Fact → Type 0
-IsNumbered made facts variable p = (k : ℕ) × (slice_get facts k ≡ Some p) × (variable p ≡ length made.inputs + k)
+  -- the clause on variables is the one on facts
+  abbrev pub IsClauseFor : List Literal → Clause → Type 0
+  IsClauseFor [] [] = Unit {0}
+  IsClauseFor [] (p ∷ ps) = ⊥
+  IsClauseFor (l ∷ ls) [] = ⊥
+  IsClauseFor (l ∷ ls) (p ∷ ps) = IsVariable l.var p.fact × (l.plus ≡ p.sign) × IsClauseFor ls ps
 
-module _ (g : Signature) (v : Vocabulary) (nodes : List Node) (made : Instances) (facts : List Fact) (variable : Fact → ℕ) where
-  -- the facts of which clauses speak and for which inputs stand have their variables
-  pub record AreNumbered : Type 0 where
-    pub tables : (clause : Clause) (l : FactLiteral) → Contains (base_clauses g v ++ congruence_clauses g v) clause → Contains clause l
-        → IsNumbered made facts variable l.fact
-    pub inputs : (k : ℕ) (input : Input) (ps : List Fact) (p : Fact) → slice_get made.inputs k ≡ Some input → input_facts nodes made.terms input ≡ Some ps
-        → Contains ps p → IsNumbered made facts variable p
+  -- the clauses of an input of this variable: it is true exactly where its facts are, and never if it has none
+  abbrev pub AreTies : ℕ → Option (List Fact) → List (List Literal) → Type 0
+  AreTies k None ties = ties ≡ (is_false k ∷ []) ∷ []
+  AreTies k (Some ps) ties = (xs : List ℕ) × AreVariables xs ps × (ties ≡ tie_clauses k xs)
 
-  -- clauses of the gates, of the inputs, and of the table; and that the formula holds
-  abbrev pub IsGateClause : List Literal → Type 0
-  IsGateClause clause = (k : ℕ) × (gate : Gate) × (slice_get made.gates k ≡ Some gate) × Contains (gate_clauses (first_gate made facts) k gate) clause
+  module _ (g : Signature) (v : Vocabulary) (nodes : List Node) where
+    -- clauses of the gates, of the inputs, and of the table; and that the gate of the whole formula is true
+    abbrev pub IsGateClause : List Literal → Type 0
+    IsGateClause clause = (k : ℕ) × (gate : Gate) × (slice_get made.gates k ≡ Some gate) × Contains (gate_clauses first_gate k gate) clause
 
-  abbrev pub IsTieClause : List Literal → Type 0
-  IsTieClause clause = (k : ℕ) × (input : Input) × (slice_get made.inputs k ≡ Some input)
-      × Contains (tie_clauses variable k (input_facts nodes made.terms input)) clause
+    abbrev pub IsTieClause : List Literal → Type 0
+    IsTieClause clause = (k : ℕ) × (input : Input) × (ties : List (List Literal)) × (slice_get made.inputs k ≡ Some input)
+        × AreTies k (input_facts nodes made.terms input) ties × Contains ties clause
 
-  abbrev pub IsTableClause : List Literal → Type 0
-  IsTableClause clause = (c : Clause) × Contains (base_clauses g v ++ congruence_clauses g v) c × (clause ≡ clause_for variable c)
+    abbrev pub IsTableClause : List Literal → Type 0
+    IsTableClause clause = (c : Clause) × Contains (base_clauses g v ++ congruence_clauses g v) c × IsClauseFor clause c
 
-  abbrev pub IsRootClause : List Literal → Type 0
-  IsRootClause clause = clause ≡ is_true (first_gate made facts + made.root) ∷ []
+    abbrev pub root_clause : List Literal
+    root_clause = is_true (first_gate + made.root) ∷ []
 
-  abbrev pub IsGroundClause : List Literal → Type 0
-  IsGroundClause clause = (IsGateClause clause ⊎ IsTieClause clause) ⊎ (IsTableClause clause ⊎ IsRootClause clause)
-
-  -- the list has each of them, and no others
-  abbrev pub AreGroundClauses : List (List Literal) → Type 0
-  AreGroundClauses clauses = (clause : List Literal) → Contains clauses clause ↔ IsGroundClause clause
+    -- the list has each of them, and no others
+    pub record AreGroundClauses (clauses : List (List Literal)) : Type 0 where
+      pub gates : (clause : List Literal) → IsGateClause clause → Contains clauses clause
+      pub ties : (k : ℕ) (input : Input) → slice_get made.inputs k ≡ Some input → (ties : List (List Literal))
+          × AreTies k (input_facts nodes made.terms input) ties × ((clause : List Literal) → Contains ties clause → Contains clauses clause)
+      pub tables : (c : Clause) → Contains (base_clauses g v ++ congruence_clauses g v) c → (clause : List Literal) × IsClauseFor clause c × Contains clauses clause
+      pub root : Contains clauses root_clause
+      pub only : (clause : List Literal) → Contains clauses clause
+          → (IsGateClause clause ⊎ IsTieClause clause) ⊎ (IsTableClause clause ⊎ (clause ≡ root_clause))

@@ -27,7 +27,7 @@ ghost use Rattle.sc_instances.specs.Made.{AreInstancesOf};
 ghost use Rattle.sc_instances.specs.Readings.{reading};
 ghost use Rattle.sc_instances.specs.declared.input.Input.{Input};
 ghost use Rattle.sc_instances.specs.declared.instantiation.Instances.{Instances};
-ghost use Rattle.sc_grounding.specs.GroundClauses.{AreGroundClauses, AreNumbered, HaveFacts};
+ghost use Rattle.sc_grounding.specs.GroundClauses.{AreGroundClauses, HaveFacts};
 ghost use Rattle.sc_grounding.specs.Says.{says};
 ghost use Rattle.sc_grounding.specs.InputFacts.{are_facts, atom_facts, input_facts};
 
@@ -67,20 +67,18 @@ pub fn inputs_are_facts()
 /// there are such values.
 pub fn ground_clauses_are_readings()
     ensures sound { (g : Signature) (f : Formula) (terms : List GroundTerm) (v : Vocabulary)
-        (nodes : List Node) (made : Instances) (facts : List Fact) (variable : Fact → ℕ)
-        (clauses : List (List Literal)) (a : Assignment) (values : ℕ → Bool) →
+        (nodes : List Node) (made : Instances) (facts : List Fact) (clauses : List (List Literal))
+        (a : Assignment) (values : ℕ → Bool) →
         IsOver g [] f → AreInstancesOf g nodes f terms made → ArePlaced made.gates →
-        AreNumbered g v nodes made facts variable →
-        AreGroundClauses g v nodes made facts variable clauses →
+        AreGroundClauses made facts g v nodes clauses →
         HaveFacts made facts a values → IsTrue (list_all (meets_clause values) clauses) →
         IsTrue (list_all (is_met a) (base_clauses g v ++ congruence_clauses g v))
         × Reads g (is_there (table_for a)) (holds (table_for a)) terms 0 [] no_terms f }
     ensures complete { (g : Signature) (f : Formula) (terms : List GroundTerm) (v : Vocabulary)
-        (nodes : List Node) (made : Instances) (facts : List Fact) (variable : Fact → ℕ)
-        (clauses : List (List Literal)) (a : Assignment) →
+        (nodes : List Node) (made : Instances) (facts : List Fact) (clauses : List (List Literal))
+        (a : Assignment) →
         IsOver g [] f → AreInstancesOf g nodes f terms made → ArePlaced made.gates →
-        AreNumbered g v nodes made facts variable →
-        AreGroundClauses g v nodes made facts variable clauses →
+        AreGroundClauses made facts g v nodes clauses →
         IsTrue (list_all (is_met a) (base_clauses g v ++ congruence_clauses g v)) →
         Reads g (is_there (table_for a)) (holds (table_for a)) terms 0 [] no_terms f →
         (values : ℕ → Bool) × HaveFacts made facts a values
@@ -92,12 +90,11 @@ pub fn ground_clauses_are_readings()
 pub fn ground_clauses_are_complete()
     ensures { (g : Signature) (f : Formula) (terms : List GroundTerm) (v : Vocabulary)
         (texts : List (List ℕ)) (nodes : List Node) (made : Instances) (facts : List Fact)
-        (variable : Fact → ℕ) (clauses : List (List Literal)) →
+        (clauses : List (List Literal)) →
         IsOver g [] f → IsNormal f → IsVocabulary g f terms v →
         ((w : List ℕ) → Contains texts w → IsText w) →
         AreInstancesOf g nodes f terms made → ArePlaced made.gates →
-        AreNumbered g v nodes made facts variable →
-        AreGroundClauses g v nodes made facts variable clauses →
+        AreGroundClauses made facts g v nodes clauses →
         (IsSatisfiableOver g f (Contains terms) ↔ ((spare : ℕ → List ℕ) × (m : Model)
         × (values : ℕ → Bool) × IsLawful g texts spare m v
         × HaveFacts made facts (assignment_of g texts spare m) values
