@@ -1,0 +1,4 @@
+pub mod AtomsSaid
+pub mod FactsSaid
+pub mod Grounded
+pub mod Tied

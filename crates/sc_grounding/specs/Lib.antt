@@ -1,0 +1,4 @@
+pub mod GroundClauses
+pub mod InputFacts
+pub mod Public
+pub mod Says

@@ -1,0 +1,102 @@
+//! What holds of the instances of any formula and of any table.
+
+ghost use Rattle.std.specs.Prelude.{◌≡◌, ◌↔◌, ◌++◌, Bool, true, ℕ, IsTrue, List, [], Contains};
+ghost use Rattle.std.specs.Prelude.{length};
+ghost use Rattle.std.specs.List.{list_all};
+ghost use Rattle.sc_ast.specs.Words.{IsText};
+ghost use Rattle.sc_formula.specs.NormalForm.{IsNormal};
+ghost use Rattle.sc_formula.specs.Over.{IsOver};
+ghost use Rattle.sc_formula.specs.Trees.{Formula};
+ghost use Rattle.sc_formula.specs.declared.node.Node.{Node};
+ghost use Rattle.sc_formula.specs.declared.structure.Signature.{Signature};
+ghost use Rattle.sc_terms.specs.GroundTerms.{GroundTerm, no_terms};
+ghost use Rattle.sc_terms.specs.Reading.{Reads};
+ghost use Rattle.sc_term_arena.specs.declared.node.TermNode.{TermNode};
+ghost use Rattle.sc_gates.specs.Clauses.{meets_clause};
+ghost use Rattle.sc_gates.specs.Gates.{ArePlaced};
+ghost use Rattle.sc_gates.specs.declared.gate.Literal.{Literal};
+ghost use Rattle.sc_terms.specs.Passing.{IsSatisfiableOver};
+ghost use Rattle.sc_tables.specs.Clauses.{base_clauses, congruence_clauses};
+ghost use Rattle.sc_tables.specs.Facts.{Assignment, Fact, is_met, table_for};
+ghost use Rattle.sc_tables.specs.Models.{IsLawful, Model, assignment_of};
+ghost use Rattle.sc_tables.specs.Vocabulary.{IsVocabulary, Vocabulary};
+ghost use Rattle.sc_tables.specs.Table.{Table, holds, is_there};
+ghost use Rattle.sc_instances.specs.GroundAtoms.{GroundAtom, holds_at};
+ghost use Rattle.sc_instances.specs.Inputs.{input_value};
+ghost use Rattle.sc_instances.specs.Made.{AreInstancesOf};
+ghost use Rattle.sc_instances.specs.Readings.{reading};
+ghost use Rattle.sc_instances.specs.declared.input.Input.{Input};
+ghost use Rattle.sc_instances.specs.declared.instantiation.Instances.{Instances};
+ghost use Rattle.sc_grounding.specs.GroundClauses.{AreGroundClauses, HaveFacts};
+ghost use Rattle.sc_grounding.specs.Says.{says};
+ghost use Rattle.sc_grounding.specs.InputFacts.{are_facts, atom_facts, input_facts};
+
+/// An atom of a formula holds in a table exactly where the table says so of the atom at values.
+pub fn atoms_agree()
+    ensures { (g : Signature) (table : Table) (scope : List ℕ) (env : List GroundTerm)
+        (atom : Formula) →
+        IsOver g scope atom → length env ≡ length scope →
+        holds table env atom ≡ holds_at (says table) env atom }
+{}
+
+/// A formula is read over a table exactly where its instances are, if the terms are there that are
+/// so in the table, and atoms at values hold where the table says so.
+pub fn readings_agree()
+    ensures reads { (g : Signature) (f : Formula) (terms : List GroundTerm) (table : Table) →
+        IsOver g [] f →
+        (Reads g (is_there table) (holds table) terms 0 [] no_terms f
+        ↔ Reads g (is_there table) (holds_at (says table)) terms 0 [] no_terms f) }
+    ensures tests { (g : Signature) (f : Formula) (terms : List GroundTerm) (table : Table) →
+        IsOver g [] f →
+        (Reads g (is_there table) (holds table) terms 0 [] no_terms f
+        ↔ (reading g terms (is_there table) (says table) 0 [] no_terms f ≡ true)) }
+{}
+
+/// What an input stands for is so, in the table that an assignment stands for, exactly where the
+/// input's facts are facts; and never if it has none.
+pub fn inputs_are_facts()
+    ensures atoms { (a : Assignment) (atom : GroundAtom) →
+        says (table_for a) atom ≡ are_facts a (atom_facts atom) }
+    ensures inputs { (nodes : List Node) (terms : List TermNode) (a : Assignment) (input : Input) →
+        input_value nodes terms (is_there (table_for a)) (says (table_for a)) input
+        ≡ are_facts a (input_facts nodes terms input) }
+{}
+
+/// Where the variables of facts have the values that an assignment gives these, and meet the
+/// clauses, the assignment meets those of tables and the formula is read by it; and where it is so,
+/// there are such values.
+pub fn ground_clauses_are_readings()
+    ensures sound { (g : Signature) (f : Formula) (terms : List GroundTerm) (v : Vocabulary)
+        (nodes : List Node) (made : Instances) (facts : List Fact) (clauses : List (List Literal))
+        (a : Assignment) (values : ℕ → Bool) →
+        IsOver g [] f → AreInstancesOf g nodes f terms made → ArePlaced made.gates →
+        AreGroundClauses made facts g v nodes clauses →
+        HaveFacts made facts a values → IsTrue (list_all (meets_clause values) clauses) →
+        IsTrue (list_all (is_met a) (base_clauses g v ++ congruence_clauses g v))
+        × Reads g (is_there (table_for a)) (holds (table_for a)) terms 0 [] no_terms f }
+    ensures complete { (g : Signature) (f : Formula) (terms : List GroundTerm) (v : Vocabulary)
+        (nodes : List Node) (made : Instances) (facts : List Fact) (clauses : List (List Literal))
+        (a : Assignment) →
+        IsOver g [] f → AreInstancesOf g nodes f terms made → ArePlaced made.gates →
+        AreGroundClauses made facts g v nodes clauses →
+        IsTrue (list_all (is_met a) (base_clauses g v ++ congruence_clauses g v)) →
+        Reads g (is_there (table_for a)) (holds (table_for a)) terms 0 [] no_terms f →
+        (values : ℕ → Bool) × HaveFacts made facts a values
+        × IsTrue (list_all (meets_clause values) clauses) }
+{}
+
+/// Some structure passes a formula over a list of terms exactly where decision procedures find a
+/// lawful model, and a search values that meet the clauses, in which facts are as in the model.
+pub fn ground_clauses_are_complete()
+    ensures { (g : Signature) (f : Formula) (terms : List GroundTerm) (v : Vocabulary)
+        (texts : List (List ℕ)) (nodes : List Node) (made : Instances) (facts : List Fact)
+        (clauses : List (List Literal)) →
+        IsOver g [] f → IsNormal f → IsVocabulary g f terms v →
+        ((w : List ℕ) → Contains texts w → IsText w) →
+        AreInstancesOf g nodes f terms made → ArePlaced made.gates →
+        AreGroundClauses made facts g v nodes clauses →
+        (IsSatisfiableOver g f (Contains terms) ↔ ((spare : ℕ → List ℕ) × (m : Model)
+        × (values : ℕ → Bool) × IsLawful g texts spare m v
+        × HaveFacts made facts (assignment_of g texts spare m) values
+        × IsTrue (list_all (meets_clause values) clauses))) }
+{}
