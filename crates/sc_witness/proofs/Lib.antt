@@ -1,0 +1,7 @@
+pub mod Databases
+pub mod Lists
+pub mod Looked
+pub mod Places
+pub mod Rising
+pub mod Structures
+pub mod Truths

@@ -1,0 +1,20 @@
+//! Laws over the definitions alone. Each is the contract of a function that does nothing.
+
+ghost use Rattle.sc_witness.specs.Back.{BuiltDatabasesStart, BuiltDatabasesTellTheTruth, StructuresComeBack};
+
+/// The structure of the database that is built of a structure, whose pairs rise, is that structure.
+pub fn structures_come_back()
+    ensures { StructuresComeBack }
+{}
+
+/// A formula is true on the structure of the database that is built of a structure exactly where it
+/// is true on that structure, in whatever order its pairs stand.
+pub fn built_databases_tell_the_truth()
+    ensures { BuiltDatabasesTellTheTruth }
+{}
+
+/// The database that is built of a structure is over the schema and has no further tables, so it is
+/// a start database of each script whose start databases are over that schema.
+pub fn built_databases_start()
+    ensures { BuiltDatabasesStart }
+{}
