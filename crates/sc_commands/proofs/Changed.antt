@@ -16,7 +16,7 @@ use Rattle.sc_schema.specs.SchemaViews.{added_of, static_info_of, field_info_of,
 use Rattle.sc_schema.specs.Commands.{add_field, schema_after, with_field}
 use Rattle.sc_schema.specs.Views.{init_of, policy_of}
 use Rattle.sc_typing.specs.Names.{plain_of}
-use Rattle.sc_typing.specs.Outcome.{Checked, ◌>>=◌}
+use Rattle.sc_typing.specs.Outcome.{◌>>=◌}
 use Rattle.sc_typing.specs.declared.type_err.TypeErr.{TypeErr}
 use Rattle.std.specs.Prelude.{Ok, Err}
 use Rattle.sc_specs.specs.declared.stage.Stage.TheVariants.{Types, Policies}

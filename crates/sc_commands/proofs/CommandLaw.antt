@@ -1,5 +1,5 @@
 -- What a command is over a schema is a command over it.
-use Rattle.std.proofs.Common.{◌≡◌, ◌==◌, ℕ, ◌+◌, zero, suc, Bool, true, false, cond, ◌||◌, List, [], ◌∷◌, ◌++◌, length, refl, sym, ap, ◌∙◌, subst, arith, eq-eqb, add-zero}
+use Rattle.std.proofs.Common.{◌≡◌, ◌==◌, ℕ, ◌+◌, Bool, true, false, cond, ◌||◌, List, [], ◌∷◌, ◌++◌, length, refl, sym, ap, ◌∙◌, subst, arith, eq-eqb, add-zero}
 use Rattle.std.specs.Prelude.{Option, Some, None, Ok, Err, is_some, IsTrue, option_and_then}
 use Rattle.std.specs.List.{find}
 use Rattle.std.specs.Option.{option_map}
@@ -10,10 +10,9 @@ use Rattle.sc_tree.specs.declared.models.FieldDef.{FieldDef}
 use Rattle.sc_tree.specs.declared.models.ModelDef.{ModelDef}
 use Rattle.sc_tree.specs.declared.policies.Policy.{Policy}
 use Rattle.sc_tree.specs.declared.policies.Init as tree_init
-use Rattle.sc_tree.specs.declared.commands.Command as written
 use Rattle.sc_tree.specs.declared.commands.Command.TheVariants as w
 use Rattle.sc_schema.specs.declared.types.TTy.{TTy}
-use Rattle.sc_schema.specs.Trees.{Policy as TypedPolicy, Init}
+use Rattle.sc_schema.specs.Trees.{Policy as TypedPolicy}
 use Rattle.sc_schema.specs.Schema.{StaticInfo, FieldInfo, ModelInfo, Schema, model_of, static_of, field_in, is_principal_model}
 use Rattle.sc_schema.specs.Typing.{HasModel}
 use Rattle.sc_schema.specs.Commands.{Command, create_model, delete_model, add_static, remove_static, add_principal, add_field, remove_field, update_field, weaken_field, update_model, weaken_model, AreNumberedFrom, HasField, IsCommand, IsGiven, IsReason}
@@ -30,7 +29,7 @@ use Rattle.sc_specs.specs.NewNames.{new_static}
 use Rattle.sc_specs.specs.Specs.{next_static}
 use Rattle.sc_commands.specs.declared.thing.Thing.TheVariants as the
 use Rattle.sc_commands.specs.Resolved.{added_field, added_static, created, field_seen, given, init_over, known_field, known_model, known_static, new_field_in, new_principal, reason_given, removed_field, removed_model, removed_static, resolved, text_given, unused, updated_field, updated_model, weakened_field, weakened_model, with_new_field}
-use Rattle.sc_commands.specs.CommandLaw.{CommandsAreResolved, HasInit, IsWritten, SomeWritten}
+use Rattle.sc_commands.specs.CommandLaw.{CommandsAreResolved, HasInit, SomeWritten}
 
 -- ---- parts of what is Ok are Ok
 

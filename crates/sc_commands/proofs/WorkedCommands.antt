@@ -6,7 +6,6 @@ use Rattle.sc_typing.specs.Exprs.{typed_expr, typed_set}
 use Rattle.sc_typing.specs.Policies.{typed_base, typed_type}
 use Rattle.sc_tree.specs.declared.exprs.Expr as trees
 use Rattle.sc_tree.specs.Placed.{expr_at, set_at}
-use Rattle.sc_schema.specs.declared.trees.TExpr as typed_trees
 use Rattle.sc_specs.specs.NewNames.{fields_differ, is_taken, one_more}
 use Rattle.sc_specs.specs.Models.{created_model, policy_at, policy_over, typed_field, typed_model, with_names, with_next_field, with_typed}
 use Rattle.sc_commands.specs.Users.{first_user}

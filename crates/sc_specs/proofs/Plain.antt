@@ -14,9 +14,8 @@ use Rattle.sc_ast.specs.Limits.{most_fields}
 use Rattle.sc_tree.specs.declared.named.Named.{Named}
 use Rattle.sc_tree.specs.declared.models.FieldDef.{FieldDef}
 use Rattle.sc_schema.specs.declared.schemas.FieldInfo as code_field
-use Rattle.sc_schema.specs.Trees.{Name}
 use Rattle.sc_typing.specs.Names.{plain_of}
-use Rattle.sc_typing.specs.Outcome.{Checked, ◌>>=◌}
+use Rattle.sc_typing.specs.Outcome.{◌>>=◌}
 use Rattle.sc_typing.specs.declared.type_err.TypeErr.{TypeErr}
 use Rattle.sc_specs.specs.declared.stage.Stage.{Stage}
 use Rattle.sc_specs.specs.Models.{typed_field, with_next_field}

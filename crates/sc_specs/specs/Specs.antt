@@ -1,5 +1,5 @@
 -- Specifications.
-use Rattle.std.specs.Prelude.{List, [], Ok}
+use Rattle.std.specs.Prelude.{[], Ok}
 use Rattle.sc_tree.specs.declared.named.Named.{Named}
 use Rattle.sc_tree.specs.declared.models.Spec.{Spec}
 use Rattle.sc_schema.specs.Schema.{StaticInfo, Schema}

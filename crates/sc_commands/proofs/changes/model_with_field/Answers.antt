@@ -1,4 +1,3 @@
-use Rattle.std.proofs.Common.{rules}
 use Rattle.sc_commands.proofs.Changed.{field_pushed}
 use Rattle.sc_commands.proofs.changes.model_with_field.Goals as goal
 
