@@ -1,4 +1,4 @@
-//! A text that is longer than its tree may be, and copies.
+//! A text that is longer than its tree may be, and one with each kind of expression and set.
 
 use sc_print::print_spec;
 use sc_texts::{SyntaxErr, parse_spec};
@@ -28,11 +28,9 @@ fn a_long_sum_is_refused_at_its_token_1_025(rt: HostRuntime) -> Result<(), Fail>
 }
 
 #[test]
-fn a_copy_is_printed_as_what_it_copies(rt: HostRuntime) -> Result<(), Fail> {
-    let alloc = rt.alloc();
-    let spec = spec_of(alloc, TEXT)?;
-    let copy = spec.copy(alloc)?;
-    assert_eq!(rt; print_spec(&copy, alloc)?.as_slice(), TEXT);
+fn a_canonical_text_is_printed_as_it_is(rt: HostRuntime) -> Result<(), Fail> {
+    let spec = spec_of(rt.alloc(), TEXT)?;
+    assert_eq!(rt; print_spec(&spec, rt.alloc())?.as_slice(), TEXT);
     Ok(())
 }
 
