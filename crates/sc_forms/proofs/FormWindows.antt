@@ -1,9 +1,8 @@
 -- The reader of every form whose choices the next piece decides looks one piece ahead.
-use Rattle.std.proofs.Common.{◌≡◌, ◌⊎◌, inl, inr, ℕ, List, [], ◌∷◌, ◌++◌, ◌<◌, suc, zero, length, arith, length-append, refl, ap, ◌∙◌, subst, true, false, ◌&&◌, not}
-use Rattle.sc_ast.specs.Pieces.{Piece}
+use Rattle.std.proofs.Common.{◌≡◌, inl, inr, ℕ, List, ◌∷◌, ◌++◌, suc, zero, length, arith, length-append, ap, ◌∙◌, subst, true, false, ◌&&◌, not}
 use Rattle.sc_tree.specs.Forms.{Form, Want, Times, AnyNumber, AtMost, NotGrammar, TooDeep, Spells, Begins, Breaks, loosened, first, empty, nothing, token, both, either, each, ended, mapped, part, within}
 use Rattle.sc_tree.specs.Levels.{Rules, SpellsPart, BeginsPart, IsTooDeep}
-use Rattle.sc_forms.specs.Reading.{Answer, Got, Stuck, Reader, read, read_part, excess, turns, read_each, read_end}
+use Rattle.sc_forms.specs.Reading.{Stuck, Reader, read, read_part, excess, turns, read_each, read_end}
 use Rattle.sc_forms.proofs.Lists.{both_true, headed, true_false}
 use Rattle.sc_forms.proofs.Tables.{mores, fine, apart}
 use Rattle.sc_forms.proofs.FormShapes.{shape, not_true}

@@ -1,7 +1,7 @@
 -- A reader looks one piece ahead and no further, so that it may be given the first pieces of a list alone.
 use Rattle.std.proofs.Common.{◌≡◌, ℕ, List, [], ◌∷◌, ◌++◌, ◌+◌, ◌-◌, ◌≤◌, ◌<◌, suc, zero, length, drop, take, arith, length-append, length-drop, refl, ap, sym, ◌∙◌, subst, append_assoc, append-nil, add-suc, Bool, true, false}
 use Rattle.std.specs.Prelude.{if◌then◌else◌, nat_le}
-use Rattle.std.proofs.lemmas.Bool.{leb-true, leb-false, le-leb}
+use Rattle.std.proofs.lemmas.Bool.{leb-true, leb-false}
 use Rattle.std.proofs.lemmas.List.{drop-append-le, length-take-le, take-append-drop, take_all, drop_all}
 use Rattle.sc_ast.specs.Pieces.{Piece}
 use Rattle.sc_tree.specs.Forms.{Cause, NotGrammar, TooManyTokens, Want, admits, may}

@@ -1,15 +1,15 @@
 -- What is read in a window on the first tokens, and what is read among all tokens.
-use Rattle.std.proofs.Common.{◌≡◌, ℕ, ◌-◌, ◌++◌, List, suc, length, drop, take, arith, length-append, ap, sym, ◌∙◌, subst, append_assoc, Ok, Err, Result, Some}
+use Rattle.std.proofs.Common.{◌≡◌, ℕ, ◌-◌, ◌++◌, List, suc, length, drop, take, arith, length-append, ap, sym, ◌∙◌, subst, append_assoc, Ok, Err, Result}
 use Rattle.std.proofs.lemmas.List.{drop_at, take-append-drop}
 use Rattle.sc_ast.specs.Pieces.{Piece}
 use Rattle.sc_tree.specs.ExprGrammar.{Part, rule, tree_of}
 use Rattle.sc_tree.specs.Texts.{first_of}
-use Rattle.sc_forms.specs.Reading.{Answer, Got, Stuck, Reader, at_most, read_part}
+use Rattle.sc_forms.specs.Reading.{Got, Stuck, Reader, at_most, read_part}
 use Rattle.sc_forms.proofs.Windows.{IsEnd, Looks, left, before, at_most_looks, window}
 use Rattle.sc_forms.proofs.FormWindows.{part_looks}
 use Rattle.sc_forms.proofs.GrammarFits.{fits, goes_on}
 use Rattle.sc_syntax.specs.declared.stop.Stop.{Stop}
-use Rattle.sc_syntax.specs.Reads.{Reads, cause_of}
+use Rattle.sc_syntax.specs.Reads.{Reads}
 
 -- what is left behind the window's rest
 beyond : (n : ℕ) (ls rest : List Piece) → IsEnd (take n ls) rest → drop (length (take n ls) - length rest) ls ≡ rest ++ drop n ls
