@@ -1,4 +1,5 @@
 pub mod AtomsSaid
 pub mod FactsSaid
 pub mod Grounded
+pub mod Listing
 pub mod Tied

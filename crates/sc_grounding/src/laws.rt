@@ -100,3 +100,10 @@ pub fn ground_clauses_are_complete()
         × HaveFacts made facts (assignment_of g texts spare m) values
         × IsTrue (list_all (meets_clause values) clauses))) }
 {}
+
+/// Instances and a vocabulary have a list of facts, and a list of clauses.
+pub fn ground_clauses_exist()
+    ensures { (g : Signature) (v : Vocabulary) (nodes : List Node) (made : Instances) →
+        (facts : List Fact) × (clauses : List (List Literal))
+        × AreGroundClauses made facts g v nodes clauses }
+{}
