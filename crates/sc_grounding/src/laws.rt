@@ -1,6 +1,6 @@
 //! What holds of the instances of any formula and of any table.
 
-ghost use Rattle.std.specs.Prelude.{◌≡◌, ◌↔◌, ◌++◌, Bool, true, ℕ, IsTrue, List, [], Contains};
+ghost use Rattle.std.specs.Prelude.{◌≡◌, ◌↔◌, ◌++◌, ◌+◌, ◌<◌, Bool, true, ℕ, IsTrue, List, [], Contains};
 ghost use Rattle.std.specs.Prelude.{length};
 ghost use Rattle.std.specs.List.{list_all};
 ghost use Rattle.sc_ast.specs.Words.{IsText};
@@ -27,7 +27,7 @@ ghost use Rattle.sc_instances.specs.Made.{AreInstancesOf};
 ghost use Rattle.sc_instances.specs.Readings.{reading};
 ghost use Rattle.sc_instances.specs.declared.input.Input.{Input};
 ghost use Rattle.sc_instances.specs.declared.instantiation.Instances.{Instances};
-ghost use Rattle.sc_grounding.specs.GroundClauses.{AreGroundClauses, HaveFacts};
+ghost use Rattle.sc_grounding.specs.GroundClauses.{AreGroundClauses, HaveFacts, first_gate};
 ghost use Rattle.sc_grounding.specs.Says.{says};
 ghost use Rattle.sc_grounding.specs.InputFacts.{are_facts, atom_facts, input_facts};
 
@@ -99,4 +99,22 @@ pub fn ground_clauses_are_complete()
         × (values : ℕ → Bool) × IsLawful g texts spare m v
         × HaveFacts made facts (assignment_of g texts spare m) values
         × IsTrue (list_all (meets_clause values) clauses))) }
+{}
+
+/// Instances and a vocabulary have a list of facts, and a list of clauses.
+pub fn ground_clauses_exist()
+    ensures { (g : Signature) (v : Vocabulary) (nodes : List Node) (made : Instances) →
+        (facts : List Fact) × (clauses : List (List Literal))
+        × AreGroundClauses made facts g v nodes clauses }
+{}
+
+/// The variables of the clauses are those of inputs, facts and gates, so others can be added behind.
+pub fn ground_clauses_are_below()
+    ensures { (g : Signature) (f : Formula) (terms : List GroundTerm) (v : Vocabulary)
+        (nodes : List Node) (made : Instances) (facts : List Fact) (clauses : List (List Literal))
+        (clause : List Literal) (l : Literal) →
+        AreInstancesOf g nodes f terms made → ArePlaced made.gates →
+        AreGroundClauses made facts g v nodes clauses →
+        Contains clauses clause → Contains clause l →
+        l.var < first_gate made facts + length made.gates }
 {}
