@@ -1,3 +1,4 @@
 pub mod Back
 pub mod Built
 pub mod Public
+pub mod Worked
