@@ -7,3 +7,4 @@ pub mod Scripts
 pub mod Structures
 pub mod Truths
 pub mod WorkedDatabases
+pub mod WorkedTexts

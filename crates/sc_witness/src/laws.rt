@@ -3,6 +3,7 @@
 ghost use Rattle.sc_witness.specs.Back.{BuiltDatabasesStart, BuiltDatabasesTellTheTruth};
 ghost use Rattle.sc_witness.specs.Back.{ScriptsAreBuildable, StructuresComeBack};
 ghost use Rattle.sc_witness.specs.Worked.{WorkedDatabases};
+ghost use Rattle.sc_witness.specs.WorkedTexts.{WorkedTexts};
 
 /// The structure of the database that is built of a structure, whose pairs rise, is that structure.
 pub fn structures_come_back()
@@ -29,4 +30,9 @@ pub fn scripts_are_buildable()
 /// Worked databases, which show what the definition gives on structures of users.
 pub fn worked_databases()
     ensures { WorkedDatabases }
+{}
+
+/// Worked texts of witnesses: of a gain, of a right on a model that the script creates, of a flow.
+pub fn worked_texts()
+    ensures { WorkedTexts }
 {}
