@@ -1,5 +1,5 @@
 -- The printed text of a start database of a script, and of a witness.
-use Rattle.std.specs.Prelude.{ℕ, suc, Bool, true, false, ◌==◌, List, [], ◌∷◌, ◌++◌, Option, None, Some, codes, position}
+use Rattle.std.specs.Prelude.{ℕ, suc, true, false, ◌==◌, List, [], ◌∷◌, ◌++◌, Option, None, Some, codes, position}
 use Rattle.std.specs.Fmt.{decimal, signed_decimal}
 use Rattle.std.specs.List.{concat, flat_map, join_by, find, list_any}
 use Rattle.std.specs.Option.{option_map_or}
