@@ -3,5 +3,8 @@ pub mod Lists
 pub mod Looked
 pub mod Places
 pub mod Rising
+pub mod Scripts
 pub mod Structures
 pub mod Truths
+pub mod WorkedDatabases
+pub mod WorkedTexts

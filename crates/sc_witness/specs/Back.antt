@@ -3,7 +3,7 @@ use Rattle.std.specs.Prelude.{◌≡◌, ◌≤◌, ◌<◌, ℕ, List, [], ◌�
 use Rattle.std.specs.List.{AllByRecursion, IsDistinct}
 use Rattle.sc_schema.specs.Schema.{ModelInfo, Schema}
 use Rattle.sc_schema.specs.Proper.{field_numbers, model_numbers}
-use Rattle.sc_schema.specs.Script.{Script}
+use Rattle.sc_schema.specs.Script.{Script, IsScript}
 use Rattle.sc_data.specs.Values.{last_id}
 use Rattle.sc_data.specs.Database.{IsDatabase, HasNoFurtherTables}
 use Rattle.sc_eval.specs.Gain.{IsStart}
@@ -50,3 +50,8 @@ abbrev pub BuiltDatabasesStart : Type 0
 BuiltDatabasesStart =
     (s : Schema) (g : Signature) (st : Structure) → IsBuildable s g st → HasIds st
     → IsDatabase s (built s st) × HasNoFurtherTables s (built s st) × ((t : Script) → t.start ≡ s → IsStart t (built s st))
+
+-- The schema of a script's start databases meets what is asked of a schema.
+abbrev pub ScriptsAreBuildable : Type 0
+ScriptsAreBuildable =
+    (t : Script) → IsScript t → (g : Signature) → IsSignatureOf t.start g → (st : Structure) → IsStructure g st → IsBuildable t.start g st

@@ -1,3 +1,7 @@
 pub mod Back
 pub mod Built
+pub mod Printed
 pub mod Public
+pub mod Witness
+pub mod Worked
+pub mod WorkedTexts

@@ -1,6 +1,9 @@
 //! Laws over the definitions alone. Each is the contract of a function that does nothing.
 
-ghost use Rattle.sc_witness.specs.Back.{BuiltDatabasesStart, BuiltDatabasesTellTheTruth, StructuresComeBack};
+ghost use Rattle.sc_witness.specs.Back.{BuiltDatabasesStart, BuiltDatabasesTellTheTruth};
+ghost use Rattle.sc_witness.specs.Back.{ScriptsAreBuildable, StructuresComeBack};
+ghost use Rattle.sc_witness.specs.Worked.{WorkedDatabases};
+ghost use Rattle.sc_witness.specs.WorkedTexts.{WorkedTexts};
 
 /// The structure of the database that is built of a structure, whose pairs rise, is that structure.
 pub fn structures_come_back()
@@ -17,4 +20,19 @@ pub fn built_databases_tell_the_truth()
 /// a start database of each script whose start databases are over that schema.
 pub fn built_databases_start()
     ensures { BuiltDatabasesStart }
+{}
+
+/// Each structure over the signature of the schema of a script's start databases has a database.
+pub fn scripts_are_buildable()
+    ensures { ScriptsAreBuildable }
+{}
+
+/// Worked databases, which show what the definition gives on structures of users.
+pub fn worked_databases()
+    ensures { WorkedDatabases }
+{}
+
+/// Worked texts of witnesses: of a gain, of a right on a model that the script creates, of a flow.
+pub fn worked_texts()
+    ensures { WorkedTexts }
 {}

@@ -1,4 +1,4 @@
-//! Databases from structures: definitions and laws.
+//! Databases from structures, and printed witnesses: definitions and laws.
 //!
 //! | module | holds |
 //! |---|---|
@@ -8,8 +8,14 @@
 //! |---|---|
 //! | `specs/Built.antt` | the database of a structure over the signature of a schema |
 //! | `specs/Back.antt` | the structure comes back, and the database is over the schema |
+//! | `specs/Worked.antt` | worked databases |
+//! | `specs/Witness.antt`, `specs/Printed.antt` | witnesses, and the printed text of one |
+//! | `specs/WorkedTexts.antt` | worked texts of witnesses |
 #![tactic(auto)]
 
 mod laws;
 
-pub use laws::{built_databases_start, built_databases_tell_the_truth, structures_come_back};
+pub use laws::{
+    built_databases_start, built_databases_tell_the_truth, scripts_are_buildable,
+    structures_come_back, worked_databases, worked_texts,
+};

@@ -1,0 +1,121 @@
+-- The printed text of a start database of a script, and of a witness.
+use Rattle.std.specs.Prelude.{ℕ, suc, true, false, ◌==◌, List, [], ◌∷◌, ◌++◌, Option, None, Some, codes, position}
+use Rattle.std.specs.Fmt.{decimal, signed_decimal}
+use Rattle.std.specs.List.{concat, flat_map, join_by, find, list_any}
+use Rattle.std.specs.Option.{option_map_or}
+use Rattle.sc_schema.specs.declared.rights.Right.{Right}
+use Rattle.sc_schema.specs.declared.rights.Right.TheVariants.{Read, Write, Create, Delete}
+use Rattle.sc_schema.specs.declared.rights.Target.{Target}
+use Rattle.sc_schema.specs.declared.rights.Target.TheVariants as on
+use Rattle.sc_schema.specs.Schema.{StaticInfo, FieldInfo, ModelInfo, model_of, field_of, model_of_target}
+use Rattle.sc_schema.specs.Commands.{Command, create_model, delete_model, add_static, remove_static, add_principal, add_field, remove_field, update_field, weaken_field, update_model, weaken_model}
+use Rattle.sc_schema.specs.Script.{Script, schema_at, created_by}
+use Rattle.sc_data.specs.declared.principals.Principal.{Principal}
+use Rattle.sc_data.specs.declared.principals.Principal.TheVariants.{Static, Rec}
+use Rattle.sc_data.specs.Values.{Value, Flag, Num, Str, Id, Ids, Nothing, Just}
+use Rattle.sc_data.specs.Database.{Slot, Record, Table, Database, table_of, records_of}
+use Rattle.sc_eval.specs.declared.cells.Cell.{Cell}
+use Rattle.sc_print.specs.Marks.{quoted}
+use Rattle.sc_witness.specs.Witness.{Witness}
+
+-- ---- values
+
+abbrev pub id_text : ℕ → List ℕ
+id_text id = codes "@" ++ decimal id
+
+abbrev pub value_text : Value → List ℕ
+value_text (Flag true) = codes "true"
+value_text (Flag false) = codes "false"
+value_text (Num n) = signed_decimal n
+value_text (Str bytes) = quoted bytes
+value_text (Id id) = id_text id
+value_text (Ids ids) = concat (codes "[" ∷ join_by id_text (codes ", ") ids ∷ codes "]" ∷ [])
+value_text Nothing = codes "none"
+value_text (Just v) = concat (codes "some(" ∷ value_text v ∷ codes ")" ∷ [])
+
+-- ---- names
+
+-- the static that the command adds
+abbrev pub statics_by : Command → List StaticInfo
+statics_by (create_model info) = []
+statics_by (delete_model m) = []
+statics_by (add_static info) = info ∷ []
+statics_by (remove_static n) = []
+statics_by (add_principal m) = []
+statics_by (add_field m f init) = []
+statics_by (remove_field m f) = []
+statics_by (update_field m f read write) = []
+statics_by (weaken_field m f read write reason) = []
+statics_by (update_model m create delete) = []
+statics_by (weaken_model m create delete reason) = []
+
+-- a name, and behind it the number of the command that adds what it names, if one does
+abbrev pub marked : List ℕ → Option ℕ → List ℕ
+marked name None = name
+marked name (Some before) = concat (name ∷ codes "@" ∷ decimal (suc before) ∷ [])
+
+module _ (t : Script) where
+  abbrev pub model_text : ℕ → List ℕ
+  model_text m =
+      marked (option_map_or (λ (info : ModelInfo). info.name) (model_of t.start m) [])
+      (position (λ c. list_any (λ (info : ModelInfo). info.number == m) (created_by c)) t.commands)
+
+  abbrev pub static_text : ℕ → List ℕ
+  static_text n =
+      marked
+      (option_map_or (λ (info : StaticInfo). info.name) (find (λ (info : StaticInfo). info.number == n) (t.start.statics ++ flat_map statics_by t.commands)) [])
+      (position (λ c. list_any (λ (info : StaticInfo). info.number == n) (statics_by c)) t.commands)
+
+  -- a field as it is named after k commands
+  abbrev pub field_text : ℕ → ℕ → ℕ → List ℕ
+  field_text k m f = option_map_or (λ (info : FieldInfo). info.name) (field_of (schema_at t k) m f) []
+
+  -- ---- databases: models, records and fields in the order of the schema, each table with its next id
+
+  abbrev pub slot_text : Record → FieldInfo → List ℕ
+  slot_text r f =
+      concat (f.name ∷ codes ": " ∷ value_text (option_map_or (λ (slot : Slot). slot.value) (find (λ (slot : Slot). slot.field == f.number) r.slots) Nothing) ∷ [])
+
+  abbrev pub record_text : ModelInfo → Record → List ℕ
+  record_text m r = concat (codes "  " ∷ id_text r.id ∷ codes " {" ∷ join_by (slot_text r) (codes ", ") m.fields ∷ codes "}\n" ∷ [])
+
+  abbrev pub table_text : Database → ModelInfo → List ℕ
+  table_text d m =
+      concat (model_text m.number ∷ codes " " ∷ id_text (option_map_or (λ (table : Table). table.next) (table_of d m.number) 1) ∷ codes " {\n"
+      ∷ flat_map (record_text m) (records_of d m.number) ∷ codes "}\n" ∷ [])
+
+  abbrev pub database_text : Database → List ℕ
+  database_text d = flat_map (table_text d) t.start.models
+
+  -- ---- witnesses, line by line
+
+  abbrev pub right_text : Right → List ℕ
+  right_text Read = codes "read"
+  right_text Write = codes "write"
+  right_text Create = codes "create"
+  right_text Delete = codes "delete"
+
+  -- what a right is on, as it is named after k commands
+  abbrev pub target_text : ℕ → Target → List ℕ
+  target_text k (on.Field m f) = concat (codes "field " ∷ model_text m ∷ codes "." ∷ field_text k m f ∷ [])
+  target_text k (on.Model m) = codes "model " ++ model_text m
+
+  abbrev pub record_name : ℕ → ℕ → List ℕ
+  record_name m id = concat (model_text m ∷ codes " " ∷ id_text id ∷ [])
+
+  abbrev pub principal_text : Principal → List ℕ
+  principal_text (Static n) = static_text n
+  principal_text (Rec m id) = record_name m id
+
+  abbrev pub touched_line : ℕ → Option Cell → List ℕ
+  touched_line k None = []
+  touched_line k (Some cell) =
+      concat (codes "touched " ∷ record_name cell.model cell.id ∷ codes " " ∷ field_text k cell.model cell.field ∷ codes "\n" ∷ [])
+
+  abbrev pub witness_text : Witness → List ℕ
+  witness_text w =
+      concat (codes "leak command " ∷ decimal w.command ∷ codes " " ∷ target_text w.command w.target ∷ codes " right " ∷ right_text w.right ∷ codes "\n"
+      ∷ codes "row " ∷ record_name (model_of_target w.target) w.row ∷ codes "\n"
+      ∷ codes "principal " ∷ principal_text w.who ∷ codes "\n"
+      ∷ touched_line w.command w.cell
+      ∷ codes "database\n" ∷ database_text w.base ∷ codes "end\n" ∷ [])
