@@ -28,8 +28,8 @@ pub fn scripts_are_buildable()
     ensures { ScriptsAreBuildable }
 {}
 
-/// Where a structure satisfies the formula of an obligation of a script, the obligation fails on the
-/// database of the structure: somebody gains the right there, or may read what leaks.
+/// Where a structure satisfies the formula of an obligation of a script, the obligation fails on
+/// the database of the structure: somebody gains the right there, or may read what leaks.
 pub fn satisfied_obligations_fail()
     ensures { SatisfiedObligationsFail }
 {}

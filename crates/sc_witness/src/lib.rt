@@ -8,7 +8,7 @@
 //! |---|---|
 //! | `specs/Built.antt` | the database of a structure over the signature of a schema |
 //! | `specs/Back.antt` | the structure comes back, and the database is over the schema |
-//! | `specs/Failing.antt` | obligations fail on databases of structures that satisfy their formulas |
+//! | `specs/Failing.antt` | an obligation fails where a structure satisfies its formula |
 //! | `specs/Worked.antt` | worked databases |
 //! | `specs/Witness.antt`, `specs/Printed.antt` | witnesses, and the printed text of one |
 //! | `specs/WorkedTexts.antt` | worked texts of witnesses |
