@@ -1,4 +1,5 @@
 pub mod Databases
+pub mod Failing
 pub mod Lists
 pub mod Looked
 pub mod Places

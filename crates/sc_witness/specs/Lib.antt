@@ -1,5 +1,6 @@
 pub mod Back
 pub mod Built
+pub mod Failing
 pub mod Printed
 pub mod Public
 pub mod Witness

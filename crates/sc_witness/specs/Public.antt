@@ -5,3 +5,4 @@ pub use Rattle.sc_witness.specs.Worked.{WorkedDatabases}
 pub use Rattle.sc_witness.specs.Witness.{Witness}
 pub use Rattle.sc_witness.specs.Printed.{value_text, model_text, static_text, field_text, database_text, witness_text}
 pub use Rattle.sc_witness.specs.WorkedTexts.{WorkedTexts}
+pub use Rattle.sc_witness.specs.Failing.{FailsOnBuilt, SatisfiedObligationsFail}

@@ -2,6 +2,7 @@
 
 ghost use Rattle.sc_witness.specs.Back.{BuiltDatabasesStart, BuiltDatabasesTellTheTruth};
 ghost use Rattle.sc_witness.specs.Back.{ScriptsAreBuildable, StructuresComeBack};
+ghost use Rattle.sc_witness.specs.Failing.{SatisfiedObligationsFail};
 ghost use Rattle.sc_witness.specs.Worked.{WorkedDatabases};
 ghost use Rattle.sc_witness.specs.WorkedTexts.{WorkedTexts};
 
@@ -25,6 +26,12 @@ pub fn built_databases_start()
 /// Each structure over the signature of the schema of a script's start databases has a database.
 pub fn scripts_are_buildable()
     ensures { ScriptsAreBuildable }
+{}
+
+/// Where a structure satisfies the formula of an obligation of a script, the obligation fails on
+/// the database of the structure: somebody gains the right there, or may read what leaks.
+pub fn satisfied_obligations_fail()
+    ensures { SatisfiedObligationsFail }
 {}
 
 /// Worked databases, which show what the definition gives on structures of users.

@@ -8,6 +8,7 @@
 //! |---|---|
 //! | `specs/Built.antt` | the database of a structure over the signature of a schema |
 //! | `specs/Back.antt` | the structure comes back, and the database is over the schema |
+//! | `specs/Failing.antt` | an obligation fails where a structure satisfies its formula |
 //! | `specs/Worked.antt` | worked databases |
 //! | `specs/Witness.antt`, `specs/Printed.antt` | witnesses, and the printed text of one |
 //! | `specs/WorkedTexts.antt` | worked texts of witnesses |
@@ -16,6 +17,6 @@
 mod laws;
 
 pub use laws::{
-    built_databases_start, built_databases_tell_the_truth, scripts_are_buildable,
-    structures_come_back, worked_databases, worked_texts,
+    built_databases_start, built_databases_tell_the_truth, satisfied_obligations_fail,
+    scripts_are_buildable, structures_come_back, worked_databases, worked_texts,
 };
