@@ -1,7 +1,7 @@
 //! What holds of the instances of any formula and of any table.
 
-ghost use Rattle.std.specs.Prelude.{◌≡◌, ◌↔◌, ◌++◌, ◌+◌, ◌<◌, Bool, true, ℕ, IsTrue, List, [], Contains};
-ghost use Rattle.std.specs.Prelude.{length};
+ghost use Rattle.std.specs.Prelude.{◌≡◌, ◌↔◌, ◌++◌, ◌+◌, ◌<◌, Bool, true, ℕ, IsTrue, List, []};
+ghost use Rattle.std.specs.Prelude.{Contains, length};
 ghost use Rattle.std.specs.List.{list_all};
 ghost use Rattle.sc_ast.specs.Words.{IsText};
 ghost use Rattle.sc_formula.specs.NormalForm.{IsNormal};
@@ -108,7 +108,8 @@ pub fn ground_clauses_exist()
         × AreGroundClauses made facts g v nodes clauses }
 {}
 
-/// The variables of the clauses are those of inputs, facts and gates, so others can be added behind.
+/// The variables of the clauses are those of inputs, facts and gates, so others can be added behind
+/// them.
 pub fn ground_clauses_are_below()
     ensures { (g : Signature) (f : Formula) (terms : List GroundTerm) (v : Vocabulary)
         (nodes : List Node) (made : Instances) (facts : List Fact) (clauses : List (List Literal))
