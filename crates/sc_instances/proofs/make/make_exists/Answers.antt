@@ -15,14 +15,14 @@ seek-requires-clause-variables c =
     let g = s.signature.now in
     let nodes = s.arena.now in
     let w = c.args.work.now in
-    let T1 = c.list_from.new.terms in
-    let T2 = c.add.new.self in
+    let listed = c.list_from.new.terms in
+    let added = c.add.new.self in
     let made = c.in_ok-t.ensures.made in
-    let ext = extends_both w.board.terms T1 T2 c.in_ok-arguments.ensures.kept made.kept in
+    let ext = extends_both w.board.terms listed added c.in_ok-arguments.ensures.kept made.kept in
     let long : c.as_slice.result.now ≡ c.args.above.variables.now ++ c.in_ok-t.t ∷ [] =
     c.as_slice.ensures.value ∙ (c.in_ok-push.ensures.items ∙ ap (λ (xs : List ℕ). xs ++ c.in_ok-t.t ∷ []) c.in_ok-variables.ensures.items) in
-    let A : List ℕ → Type 0 = λ ids. AreOnes T2 ids in
-    subst A (sym long) (ones_append T2 c.args.above.variables.now (c.in_ok-t.t ∷ []) (ones_kept w.board.terms T2 c.args.above.variables.now ext c.requires.variables) (made.kind, tt))
+    let A : List ℕ → Type 0 = λ ids. AreOnes added ids in
+    subst A (sym long) (ones_append added c.args.above.variables.now (c.in_ok-t.t ∷ []) (ones_kept w.board.terms added c.args.above.variables.now ext c.requires.variables) (made.kind, tt))
 
 pub seek-requires-clause-arguments : goal.seek-requires-clause-arguments
 seek-requires-clause-arguments c =
@@ -30,11 +30,11 @@ seek-requires-clause-arguments c =
     let g = s.signature.now in
     let nodes = s.arena.now in
     let w = c.args.work.now in
-    let T1 = c.list_from.new.terms in
-    let T2 = c.add.new.self in
+    let listed = c.list_from.new.terms in
+    let added = c.add.new.self in
     let made = c.in_ok-t.ensures.made in
-    let ext = extends_both w.board.terms T1 T2 c.in_ok-arguments.ensures.kept made.kept in
-    ones_kept w.board.terms T2 c.args.above.arguments.now ext c.requires.arguments
+    let ext = extends_both w.board.terms listed added c.in_ok-arguments.ensures.kept made.kept in
+    ones_kept w.board.terms added c.args.above.arguments.now ext c.requires.arguments
 
 pub seek-requires-clause-ready : goal.seek-requires-clause-ready
 seek-requires-clause-ready c =
@@ -42,11 +42,11 @@ seek-requires-clause-ready c =
     let g = s.signature.now in
     let nodes = s.arena.now in
     let w = c.args.work.now in
-    let T1 = c.list_from.new.terms in
-    let T2 = c.add.new.self in
+    let listed = c.list_from.new.terms in
+    let added = c.add.new.self in
     let made = c.in_ok-t.ensures.made in
-    let ext = extends_both w.board.terms T1 T2 c.in_ok-arguments.ensures.kept made.kept in
-    let m1 = record w { board = record w.board { terms = T2 } } in
+    let ext = extends_both w.board.terms listed added c.in_ok-arguments.ensures.kept made.kept in
+    let m1 = record w { board = record w.board { terms = added } } in
     ready_later g nodes s.shapes.now s.listed.now w m1 (grows_terms w.board m1.board ext refl refl) refl refl c.requires.ready
 
 pub join_both-requires-clause-left : goal.join_both-requires-clause-left
@@ -60,18 +60,18 @@ returns c =
     let g = s.signature.now in
     let nodes = s.arena.now in
     let w = c.args.work.now in
-    let T1 = c.list_from.new.terms in
-    let T2 = c.add.new.self in
+    let listed = c.list_from.new.terms in
+    let added = c.add.new.self in
     let made = c.in_ok-t.ensures.made in
-    let ext = extends_both w.board.terms T1 T2 c.in_ok-arguments.ensures.kept made.kept in
+    let ext = extends_both w.board.terms listed added c.in_ok-arguments.ensures.kept made.kept in
     let long : c.as_slice.result.now ≡ c.args.above.variables.now ++ c.in_ok-t.t ∷ [] =
     c.as_slice.ensures.value ∙ (c.in_ok-push.ensures.items ∙ ap (λ (xs : List ℕ). xs ++ c.in_ok-t.t ∷ []) c.in_ok-variables.ensures.items) in
-    let m1 = record w { board = record w.board { terms = T2 } } in
+    let m1 = record w { board = record w.board { terms = added } } in
     let m2 = c.seek.new.self in
     let m3 = record m2 { board = c.input.new.self } in
-    let fits = one_kept T2 m2.board.terms c.in_ok-t.t c.in_ok-body.ensures.grows.terms made.kind in
+    let fits = one_kept added m2.board.terms c.in_ok-t.t c.in_ok-body.ensures.grows.terms made.kind in
     exists_gate g nodes s.shapes.now s.listed.now w m1 m2 m3 _ c.args.above.variables.now c.as_slice.result.now c.args.above.arguments.now c.args.above.number c.in_ok-number_after.field-0 c.in_ok-t.t c.in_ok-there.there
     (skolem c.args.above.number c.args.sort (from_list (terms_at w.board.terms c.args.above.arguments.now))) (formula_of nodes c.args.a) c.in_ok-body.body c.in_ok-gate.gate c.requires.ready c.requires.variables c.requires.arguments
     c.in_ok-number_after.ensures long (grows_terms w.board m1.board ext refl refl) made.kind
-    (skolem_is g nodes s.shapes.now s.listed.now w.board.terms T1 T2 c.args.above.arguments.now c.in_ok-arguments.arguments c.args.above.number c.args.sort c.in_ok-t.t c.in_ok-arguments.ensures made)
+    (skolem_is g nodes s.shapes.now s.listed.now w.board.terms listed added c.args.above.arguments.now c.in_ok-arguments.arguments c.args.above.number c.args.sort c.in_ok-t.t c.in_ok-arguments.ensures made)
     c.in_ok-body.ensures c.in_ok-there.ensures.grows (c.in_ok-there.ensures.means nodes fits) refl refl c.in_ok-gate.ensures refl refl
