@@ -45,7 +45,7 @@ use Rattle.sc_duty.specs.Reads.{init_read_by}
 use Rattle.sc_duty.specs.Flows.{cell_of, IsFlowDuty, LeaksToSomebody, FlowFormulasAreTrue}
 use Rattle.sc_duty.proofs.Signed.{exists-truth}
 use Rattle.sc_duty.proofs.Means.{IsPrefix, prefix-more, IsTermOf, IsWho, term-more, who-more}
-use Rattle.sc_duty.proofs.Meanings.{Shows, next-is}
+use Rattle.sc_duty.proofs.Meanings.{Shows, got-there, next-is}
 use Rattle.sc_duty.proofs.Starting.{find-front}
 use Rattle.sc_duty.proofs.Shown.{has-field, some-passes, shows-all, shown-field, shown-model}
 use Rattle.sc_duty.proofs.Created.{model-of-start, kind-model}
@@ -333,6 +333,38 @@ module _ (t : Script) (is : IsScript t) (duty : Duty) (spot m : ℕ) (f : FieldI
   found (kind.Model n) h id there e =
       let one = some-id (λ z. to_some id (who.Rec n z)) (ids_of d n) e in
       leak-to id (who.Rec n one.0) there (and-both _ _ h (ap (list_any (λ i. i == one.0)) (kind-kept n h) ∙ one.2)) one.1
+
+  -- ---- the elements at which the formula is true are those of a record, of who may read the field on it, and of what leaks to them
+
+  pub cell-leaks : (id : ℕ) (q : Principal) (other : ℕ) → leaks id q other ≡ true → Contains (init_read_by now init id (spot - 1)) (cell_of at other)
+  cell-leaks id q other h = at-cell at other (reads_at id) (reads-of id q other h)
+
+  pub static-leaks : (n : ℕ) → is_kind_at t k (kind.Static n) ≡ true → (x id : ℕ) → slice_get (ids_of d mt) x ≡ Some id
+      → (z other : ℕ) → slice_get (ids_of d at.model) z ≡ Some other
+      → truth st (x ∷ z ∷ []) (body (static n) (bound (sort_of t.start at.model) 1) 2) ≡ true
+      → FlowAt t k d id (who.Static n) (cell_of at other) × Contains (init_read_by now init id (spot - 1)) (cell_of at other)
+  static-leaks n h x id got z other there e =
+      let xs : List ℕ = x ∷ z ∷ [] in
+      let first = next-is t.start t.start nothing_written st d d all-shown mt start-there [] x id got in
+      let row = term-more t.start st d (x ∷ []) xs (base.Id mt) (Id id) (bound (sort_of t.start mt) 0) (prefix-more (x ∷ []) z) first in
+      let cell = next-is t.start t.start nothing_written st d d all-shown at.model (got-model at.model z other there) (x ∷ []) z other there in
+      let leaks_so = sym (body-true xs id row (who.Static n) (static n) refl other (bound (sort_of t.start at.model) 1) cell) ∙ e in
+      (leaked id (who.Static n) other (got-there (ids_of d mt) x id got) (and-both _ _ h refl) leaks_so, cell-leaks id (who.Static n) other leaks_so)
+
+  pub record-leaks : (n : ℕ) → is_kind_at t k (kind.Model n) ≡ true → (x id : ℕ) → slice_get (ids_of d mt) x ≡ Some id
+      → (y one : ℕ) → slice_get (ids_of d n) y ≡ Some one → (z other : ℕ) → slice_get (ids_of d at.model) z ≡ Some other
+      → truth st (x ∷ y ∷ z ∷ []) (body (record_at n (bound (sort_of t.start n) 1)) (bound (sort_of t.start at.model) 2) 3) ≡ true
+      → FlowAt t k d id (who.Rec n one) (cell_of at other) × Contains (init_read_by now init id (spot - 1)) (cell_of at other)
+  record-leaks n h x id got y one is_one z other there e =
+      let xs : List ℕ = x ∷ y ∷ z ∷ [] in
+      let first = next-is t.start t.start nothing_written st d d all-shown mt start-there [] x id got in
+      let row = term-more t.start st d (x ∷ []) xs (base.Id mt) (Id id) (bound (sort_of t.start mt) 0) (y ∷ z ∷ [], refl) first in
+      let second = next-is t.start t.start nothing_written st d d all-shown n (kind-model t is n k h) (x ∷ []) y one is_one in
+      let who = who-more t.start st d (x ∷ y ∷ []) xs (who.Rec n one) (record_at n (bound (sort_of t.start n) 1)) (prefix-more (x ∷ y ∷ []) z) (refl, second) in
+      let cell = next-is t.start t.start nothing_written st d d all-shown at.model (got-model at.model z other there) (x ∷ y ∷ []) z other there in
+      let leaks_so = sym (body-true xs id row (who.Rec n one) (record_at n (bound (sort_of t.start n) 1)) who other (bound (sort_of t.start at.model) 2) cell) ∙ e in
+      (leaked id (who.Rec n one) other (got-there (ids_of d mt) x id got)
+      (and-both _ _ h (ap (list_any (λ i. i == one)) (kind-kept n h) ∙ got-there (ids_of d n) y one is_one)) leaks_so, cell-leaks id (who.Rec n one) other leaks_so)
 
   leaks-true : (id : ℕ) (q : Principal) (y : ℕ) → FlowAt t k d id q (cell_of at y) → Contains (reads_at id) (cell_of at y) → leaks id q y ≡ true
   leaks-true id q y g reads =

@@ -39,7 +39,7 @@ use Rattle.sc_duty.specs.Duties.{written_at, has_right, for_some_principal, gain
 use Rattle.sc_duty.specs.Gains.{IsGainDuty, GainsSomebody, GainFormulasAreTrue}
 use Rattle.sc_duty.proofs.Signed.{same-unsign, constant-truth, exists-truth}
 use Rattle.sc_duty.proofs.Means.{prefix-more, IsTermOf, IsWho, term-more}
-use Rattle.sc_duty.proofs.Meanings.{Shows, next-is, allowed-means}
+use Rattle.sc_duty.proofs.Meanings.{Shows, got-there, next-is, allowed-means}
 use Rattle.sc_duty.proofs.Shown.{model-of-field}
 use Rattle.sc_duty.proofs.Created.{command-there, run-after, model-of-start, kind-model}
 use Rattle.sc_duty.proofs.Running.{first-shown, shown-at}
@@ -207,6 +207,19 @@ module _ (t : Script) (is : IsScript t) (duty : Duty) (of : IsGainDuty t duty) (
   some_gains (kind.Static n) id = gains id (who.Static n)
   some_gains (kind.Model n) id = list_any (λ y. gains id (who.Rec n y)) (ids_of d n)
 
+  record-pair : (n : ℕ) → is_kind_at t k (kind.Model n) ≡ true → (x id : ℕ) → slice_get (ids_of d m) x ≡ Some id
+      → (y other : ℕ) → slice_get (ids_of d n) y ≡ Some other
+      → truth st (x ∷ y ∷ [])
+      (both (has_right t k duty.target duty.right (bound (sort_of t.start m) 0) (record_at n (bound (sort_of t.start n) 1)) true 2)
+      (has_right t (k - 1) duty.target duty.right (bound (sort_of t.start m) 0) (record_at n (bound (sort_of t.start n) 1)) false 2))
+      ≡ gains id (who.Rec n other)
+  record-pair n h x id got y other there =
+      let first = next-is t.start t.start nothing_written st d d all-shown m start-there [] x id got in
+      pair-true (x ∷ y ∷ []) id (bound (sort_of t.start m) 0)
+      (term-more t.start st d (x ∷ []) (x ∷ y ∷ []) (base.Id m) (Id id) (bound (sort_of t.start m) 0) (prefix-more (x ∷ []) y) first)
+      (who.Rec n other) (record_at n (bound (sort_of t.start n) 1))
+      (refl, next-is t.start t.start nothing_written st d d all-shown n (kind-model t is n k h) (x ∷ []) y other there)
+
   kind-true : (a : Kind) → is_kind_at t k a ≡ true → (x id : ℕ) → slice_get (ids_of d m) x ≡ Some id
       → truth st (x ∷ [])
       (for_some_principal t a 1 (λ w above. both (has_right t k duty.target duty.right (bound (sort_of t.start m) 0) w true above)
@@ -215,17 +228,11 @@ module _ (t : Script) (is : IsScript t) (duty : Duty) (of : IsGainDuty t duty) (
   kind-true (kind.Static n) h x id got =
       pair-true (x ∷ []) id (bound (sort_of t.start m) 0) (next-is t.start t.start nothing_written st d d all-shown m start-there [] x id got) (who.Static n) (static n) refl
   kind-true (kind.Model n) h x id got =
-      let model = kind-model t is n k h in
-      let first = next-is t.start t.start nothing_written st d d all-shown m start-there [] x id got in
       exists-truth st (x ∷ []) true (sort_of t.start n)
       (both (has_right t k duty.target duty.right (bound (sort_of t.start m) 0) (record_at n (bound (sort_of t.start n) 1)) true 2)
       (has_right t (k - 1) duty.target duty.right (bound (sort_of t.start m) 0) (record_at n (bound (sort_of t.start n) 1)) false 2))
-      (ids_of d n) (λ y. gains id (who.Rec n y)) (all-shown.sizes n model)
-      (λ y other there.
-      pair-true (x ∷ y ∷ []) id (bound (sort_of t.start m) 0)
-      (term-more t.start st d (x ∷ []) (x ∷ y ∷ []) (base.Id m) (Id id) (bound (sort_of t.start m) 0) (prefix-more (x ∷ []) y) first)
-      (who.Rec n other) (record_at n (bound (sort_of t.start n) 1))
-      (refl, next-is t.start t.start nothing_written st d d all-shown n model (x ∷ []) y other there))
+      (ids_of d n) (λ y. gains id (who.Rec n y)) (all-shown.sizes n (kind-model t is n k h))
+      (λ y other there. record-pair n h x id got y other there)
 
   formula-true : truth st [] (gain_formula_of t duty) ≡ list_any (some_gains duty.kind) (ids_of d m)
   formula-true =
@@ -255,6 +262,27 @@ module _ (t : Script) (is : IsScript t) (duty : Duty) (of : IsGainDuty t duty) (
   found (kind.Model n) h id there e =
       let one = some-id (λ y. gains id (who.Rec n y)) (ids_of d n) e in
       (who.Rec n one.0, refl, gained id (who.Rec n one.0) there (and-both _ _ h (ap (list_any (λ i. i == one.0)) (kind-kept n h) ∙ one.2)) one.1)
+
+  -- ---- the elements at which the formula is true are those of a record and a principal who gains the right on it
+
+  pub static-gains : (n : ℕ) → is_kind_at t k (kind.Static n) ≡ true → (x id : ℕ) → slice_get (ids_of d m) x ≡ Some id
+      → truth st (x ∷ [])
+      (both (has_right t k duty.target duty.right (bound (sort_of t.start m) 0) (static n) true 1)
+      (has_right t (k - 1) duty.target duty.right (bound (sort_of t.start m) 0) (static n) false 1)) ≡ true
+      → GainAt t k duty.target duty.right d id (who.Static n)
+  static-gains n h x id got e =
+      gained id (who.Static n) (got-there (ids_of d m) x id got) (and-both _ _ h refl) (sym (kind-true (kind.Static n) h x id got) ∙ e)
+
+  pub record-gains : (n : ℕ) → is_kind_at t k (kind.Model n) ≡ true → (x id : ℕ) → slice_get (ids_of d m) x ≡ Some id
+      → (y other : ℕ) → slice_get (ids_of d n) y ≡ Some other
+      → truth st (x ∷ y ∷ [])
+      (both (has_right t k duty.target duty.right (bound (sort_of t.start m) 0) (record_at n (bound (sort_of t.start n) 1)) true 2)
+      (has_right t (k - 1) duty.target duty.right (bound (sort_of t.start m) 0) (record_at n (bound (sort_of t.start n) 1)) false 2)) ≡ true
+      → GainAt t k duty.target duty.right d id (who.Rec n other)
+  record-gains n h x id got y other there e =
+      gained id (who.Rec n other) (got-there (ids_of d m) x id got)
+      (and-both _ _ h (ap (list_any (λ i. i == other)) (kind-kept n h) ∙ got-there (ids_of d n) y other there))
+      (sym (record-pair n h x id got y other there) ∙ e)
 
   gains-true : (id : ℕ) (q : Principal) → GainAt t k duty.target duty.right d id q → gains id q ≡ true
   gains-true id q g = and-both _ _ g.after (ap not g.before)

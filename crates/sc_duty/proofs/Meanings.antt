@@ -105,7 +105,7 @@ pub get-next : (xs ys : List ℕ) (k : ℕ) → slice_get ((xs ++ k ∷ []) ++ y
 get-next [] ys k = refl
 get-next (x ∷ xs) ys k = get-next xs ys k
 
-got-there : (ids : List ℕ) (k id : ℕ) → slice_get ids k ≡ Some id → list_any (λ i. i == id) ids ≡ true
+pub got-there : (ids : List ℕ) (k id : ℕ) → slice_get ids k ≡ Some id → list_any (λ i. i == id) ids ≡ true
 got-there [] k id e = cc
 got-there (i ∷ ids) zero id e = let same : i ≡ id = cc in ap (λ t. t || list_any (λ i. i == id) ids) (eq-eqb i id same)
 got-there (i ∷ ids) (suc k) id e =
