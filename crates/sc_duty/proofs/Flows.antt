@@ -360,9 +360,9 @@ module _ (t : Script) (is : IsScript t) (duty : Duty) (spot m : ℕ) (f : FieldI
       let first = next-is t.start t.start nothing_written st d d all-shown mt start-there [] x id got in
       let row = term-more t.start st d (x ∷ []) xs (base.Id mt) (Id id) (bound (sort_of t.start mt) 0) (y ∷ z ∷ [], refl) first in
       let second = next-is t.start t.start nothing_written st d d all-shown n (kind-model t is n k h) (x ∷ []) y one is_one in
-      let who = who-more t.start st d (x ∷ y ∷ []) xs (who.Rec n one) (record_at n (bound (sort_of t.start n) 1)) (prefix-more (x ∷ y ∷ []) z) (refl, second) in
+      let second-is = who-more t.start st d (x ∷ y ∷ []) xs (who.Rec n one) (record_at n (bound (sort_of t.start n) 1)) (prefix-more (x ∷ y ∷ []) z) (refl, second) in
       let cell = next-is t.start t.start nothing_written st d d all-shown at.model (got-model at.model z other there) (x ∷ y ∷ []) z other there in
-      let leaks_so = sym (body-true xs id row (who.Rec n one) (record_at n (bound (sort_of t.start n) 1)) who other (bound (sort_of t.start at.model) 2) cell) ∙ e in
+      let leaks_so = sym (body-true xs id row (who.Rec n one) (record_at n (bound (sort_of t.start n) 1)) second-is other (bound (sort_of t.start at.model) 2) cell) ∙ e in
       (leaked id (who.Rec n one) other (got-there (ids_of d mt) x id got)
       (and-both _ _ h (ap (list_any (λ i. i == one)) (kind-kept n h) ∙ got-there (ids_of d n) y one is_one)) leaks_so, cell-leaks id (who.Rec n one) other leaks_so)
 
