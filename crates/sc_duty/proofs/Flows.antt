@@ -275,7 +275,7 @@ module _ (t : Script) (is : IsScript t) (duty : Duty) (spot m : ℕ) (f : FieldI
       (who.Rec n other) (record_at n (bound (sort_of t.start n) 1))
       (refl, next-is t.start t.start nothing_written st d d all-shown n model (x ∷ []) z other there) 2 refl)
 
-  the-formula : flow_formula_of t duty spot ≡ leak_formula t duty init (spot - 1) at
+  pub the-formula : flow_formula_of t duty spot ≡ leak_formula t duty init (spot - 1) at
   the-formula =
       ap (λ o. option_map_or (added_formula t duty spot) o no) of.adds.command
       ∙ ap (λ o. option_map_or (leak_formula t duty init (spot - 1)) o no) of.used

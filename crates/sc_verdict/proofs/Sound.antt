@@ -1,0 +1,92 @@
+-- What the outcomes of a script say of it.
+use Rattle.std.proofs.Common.{◌≡◌, ℕ, Bool, true, false, List, [], refl, ap, sym, ◌∙◌, subst, inl, inr}
+use Rattle.std.specs.Prelude.{Option, Some, None, length, slice_get, Contains, MatchOption}
+use Rattle.std.specs.Option.{option_map_or}
+use Rattle.std.proofs.lemmas.Bool.{false_from_ne_true}
+use Rattle.std.proofs.lemmas.List.Elements.{Contains-get_or}
+use Rattle.std.proofs.lemmas.Option.{slice_get_within, get_or_from_slice_get}
+use Rattle.sc_schema.specs.Script.{Script, IsScript}
+use Rattle.sc_data.specs.Database.{Database}
+use Rattle.sc_eval.specs.Gain.{IsStart}
+use Rattle.sc_eval.specs.Secure.{IsSecure, IsStepSecure}
+use Rattle.sc_eval.proofs.Steps.{whole}
+use Rattle.sc_formula.specs.declared.structure.Signature.{Signature}
+use Rattle.sc_formula.specs.declared.structure.Structure.{Structure}
+use Rattle.sc_formula.specs.NormalForm.{normal_form}
+use Rattle.sc_formula.specs.Trees.{Formula}
+use Rattle.sc_formula.specs.Truth.{truth}
+use Rattle.sc_formula.proofs.NormalForms.{truth-signed_form}
+use Rattle.sc_terms.specs.Counts.{term_count, IsTooLarge}
+use Rattle.sc_terms.specs.Structures.{IsStructure}
+use Rattle.sc_terms.specs.Satisfying.{Satisfies}
+use Rattle.sc_terms.specs.Universe.{IsShallowTerm}
+use Rattle.sc_terms.proofs.Witnesses.{passes_where_true}
+use Rattle.sc_duty.specs.declared.duty.Duty.{Duty}
+use Rattle.sc_duty.specs.Duties.{obligations_of, formula_of, gain_formula_of, flow_formula_of}
+use Rattle.sc_duty.specs.Structures.{structure_of}
+use Rattle.sc_duty.specs.Gains.{IsGainDuty}
+use Rattle.sc_duty.specs.Flows.{cell_of}
+use Rattle.sc_duty.specs.Listed.{IsUseDuty}
+use Rattle.sc_duty.specs.Over.{IsSignatureOf}
+use Rattle.sc_duty.proofs.Gains.{true_gains}
+use Rattle.sc_duty.proofs.Flows.{true_flows}
+use Rattle.sc_duty.proofs.Listed.{from-list}
+use Rattle.sc_duty.proofs.Shapes.{structures_are_over, unsatisfied_secure}
+use Rattle.sc_witness.specs.Witness.{Witness}
+use Rattle.sc_verdict.specs.FailsBy.{IsGainOf, IsLeakOf, FailsBy}
+use Rattle.sc_verdict.specs.Outcomes.{Outcome, accepted, leak, undecided, too_large, IsCleared, Stratified, Shallow, normal_formula, IsDue, IsOutcome}
+use Rattle.sc_verdict.specs.Sound.{ClearedDoNotFail, AcceptedAreSecure, LeaksAreReal, IsDecidable, IsSettled, Accepted, Leak, DecidableAreSettled}
+
+-- a cleared formula is true on no structure
+cleared-false : (g : Signature) (f : Formula) → IsCleared g (normal_form f) → (s : Structure) → IsStructure g s → truth s [] f ≡ true → ⊥
+cleared-false g f cleared s over e =
+    let here : truth s [] (normal_form f) ≡ true = truth-signed_form s true [] f ∙ e in
+    elim cleared [
+      | Stratified stratified within none ↦ none (s, record { structure = over; true_there = here })
+      | Shallow stratified within none ↦ none (s, over, passes_where_true g (normal_form f) (IsShallowTerm g (normal_form f)) s here)
+    ]
+
+fails-true : (t : Script) → IsScript t → (duty : Duty) (w : Witness) (spot : Option ℕ) → MatchOption spot (IsGainDuty t duty) (IsUseDuty t duty)
+    → MatchOption spot (IsGainOf t duty w) (IsLeakOf t duty w)
+    → (start : IsStart t w.base) × (truth (structure_of t.start w.base) [] (option_map_or (flow_formula_of t duty) spot (gain_formula_of t duty)) ≡ true)
+fails-true t is duty w None of h =
+    (h.gain.start, (true_gains t is duty of w.base h.gain.start).1 (record { id = w.row; who = w.who; kind = h.kind; gain = h.gain }))
+fails-true t is duty w (Some spot) of h =
+    (h.flow.start, (true_flows t is duty spot h.model h.field h.init h.at h.duty_is w.base h.flow.start).1
+    (record { id = w.row; who = w.who; source = h.source; kind = h.kind; flow = h.flow; reads = h.reads }))
+
+pub cleared_do_not_fail : ClearedDoNotFail
+cleared_do_not_fail t is g of duty listed cleared w h =
+    let one = fails-true t is duty w duty.spot (from-list t is duty listed) h.fails in
+    cleared-false g (formula_of t duty) cleared (structure_of t.start w.base) (structures_are_over t is g of w.base one.0) one.1
+
+pub accepted_are_secure : AcceptedAreSecure
+accepted_are_secure t is n h =
+    let step : IsStepSecure t =
+    unsatisfied_secure t is h.signature h.signature_of
+    (λ duty listed s over. false_from_ne_true _ (λ e. cleared-false h.signature (formula_of t duty) (h.over.1 duty listed) s over e)) in
+    (step, whole t is step)
+
+fails-insecure : (t : Script) (duty : Duty) (w : Witness) (spot : Option ℕ) → MatchOption spot (IsGainOf t duty w) (IsLeakOf t duty w) → IsStepSecure t → ⊥
+fails-insecure t duty w None h secure = secure.no_gain duty.command duty.target duty.right w.base w.row w.who h.gain
+fails-insecure t duty w (Some spot) h secure = secure.no_flow duty.command w.base w.row w.who (cell_of h.at h.source) h.flow
+
+pub leaks_are_real : LeaksAreReal
+leaks_are_real t w h secure = fails-insecure t h.over.duty w h.over.duty.spot h.over.fails.fails secure
+
+due-listed : (t : Script) (g : Signature) (duty : Duty) → IsDue t g duty → Contains (obligations_of t) duty
+due-listed t g duty due =
+    let P : Duty → Type 0 = λ x. Contains (obligations_of t) x in
+    subst P (get_or_from_slice_get (obligations_of t) due.place duty duty due.at)
+    (Contains-get_or (obligations_of t) due.place duty (slice_get_within (obligations_of t) due.place duty due.at))
+
+pub decidable_are_settled : DecidableAreSettled
+decidable_are_settled t decidable (accepted n) h = Accepted n
+decidable_are_settled t decidable (leak w) h = Leak w
+decidable_are_settled t decidable (undecided duty cycle) h =
+    absurd (h.over.not_stratified (decidable h.signature h.signature_of duty (due-listed t h.signature duty h.over.due)).0)
+decidable_are_settled t decidable (too_large duty terms nodes) h =
+    let within = (decidable h.signature h.signature_of duty (due-listed t h.signature duty h.over.due)).1 in
+    absurd (within
+    (subst (λ (n : ℕ). IsTooLarge (term_count h.signature (normal_formula t duty)) n) h.over.nodes_are
+    (subst (λ (n : ℕ). IsTooLarge n nodes) h.over.terms_are h.over.too_large)))

@@ -1,0 +1,4 @@
+pub mod FailsBy
+pub mod Outcomes
+pub mod Picked
+pub mod Sound

@@ -1,0 +1,42 @@
+-- What the outcomes of a script say of it.
+use Rattle.std.specs.Prelude.{◌≡◌, ℕ, Contains}
+use Rattle.sc_schema.specs.Script.{Script, IsScript}
+use Rattle.sc_data.specs.Database.{Database}
+use Rattle.sc_eval.specs.Gain.{GainAt, FlowAt}
+use Rattle.sc_eval.specs.Secure.{IsSecure, IsStepSecure}
+use Rattle.sc_formula.specs.declared.structure.Signature.{Signature}
+use Rattle.sc_strata.specs.SortGraph.{IsStratified}
+use Rattle.sc_duty.specs.declared.duty.Duty.{Duty}
+use Rattle.sc_duty.specs.Duties.{obligations_of}
+use Rattle.sc_duty.specs.Over.{IsSignatureOf}
+use Rattle.sc_witness.specs.Witness.{Witness}
+use Rattle.sc_verdict.specs.FailsBy.{FailsBy}
+use Rattle.sc_verdict.specs.Outcomes.{Outcome, accepted, leak, IsWithinLimits, IsCleared, normal_formula, IsOutcome}
+
+-- An obligation that is cleared fails by no witness.
+abbrev pub ClearedDoNotFail : Type 0
+ClearedDoNotFail =
+    (t : Script) → IsScript t → (g : Signature) → IsSignatureOf t.start g → (duty : Duty) → Contains (obligations_of t) duty
+    → IsCleared g (normal_formula t duty) → (w : Witness) → FailsBy t duty w → ⊥
+
+-- An accepted script is secure, at each step and as a whole.
+abbrev pub AcceptedAreSecure : Type 0
+AcceptedAreSecure = (t : Script) → IsScript t → (n : ℕ) → IsOutcome t (accepted n) → IsStepSecure t × IsSecure t
+
+-- A script that leaks is not secure at each step.
+abbrev pub LeaksAreReal : Type 0
+LeaksAreReal = (t : Script) (w : Witness) → IsOutcome t (leak w) → IsStepSecure t → ⊥
+
+-- the formula of each obligation is stratified and within the limits
+abbrev pub IsDecidable : Script → Type 0
+IsDecidable t =
+    (g : Signature) → IsSignatureOf t.start g → (duty : Duty) → Contains (obligations_of t) duty
+    → IsStratified g (normal_formula t duty) × IsWithinLimits g (normal_formula t duty)
+
+-- What a script comes to whose obligations are all decidable: it is accepted or leaks.
+pub data IsSettled : Outcome → Type 0 where
+  Accepted : (n : ℕ) → IsSettled (accepted n)
+  Leak : (w : Witness) → IsSettled (leak w)
+
+abbrev pub DecidableAreSettled : Type 0
+DecidableAreSettled = (t : Script) → IsDecidable t → (outcome : Outcome) → IsOutcome t outcome → IsSettled outcome
