@@ -1,5 +1,5 @@
 -- The witness of the elements at which a structure satisfies the formula of an obligation.
-use Rattle.std.proofs.Common.{◌≡◌, ℕ, zero, suc, ◌+◌, ◌-◌, ◌<◌, ◌≤◌, Bool, true, false, List, [], ◌∷◌, length, refl, ap, sym, ◌∙◌, subst, arith, inl, inr}
+use Rattle.std.proofs.Common.{◌≡◌, ℕ, zero, suc, ◌+◌, ◌-◌, ◌<◌, true, false, List, [], ◌∷◌, refl, ap, sym, ◌∙◌, subst, arith}
 use Rattle.std.specs.Prelude.{Option, Some, None, slice_get, option_and_then, Contains, MatchOption}
 use Rattle.std.specs.List.{range_with_len}
 use Rattle.std.specs.Option.{option_map, option_map_or}
@@ -10,10 +10,8 @@ use Rattle.sc_schema.specs.declared.rights.Target.TheVariants as on
 use Rattle.sc_schema.specs.Trees.{Init}
 use Rattle.sc_schema.specs.Schema.{FieldInfo, model_of_target}
 use Rattle.sc_schema.specs.Uses.{Use}
-use Rattle.sc_schema.specs.Script.{Script, command_at, IsScript}
+use Rattle.sc_schema.specs.Script.{Script, IsScript}
 use Rattle.sc_schema.specs.Kinds.{is_kind_at}
-use Rattle.sc_data.specs.declared.principals.Principal.{Principal}
-use Rattle.sc_data.specs.declared.principals.Principal.TheVariants as who
 use Rattle.sc_data.specs.Database.{Database, ids_of}
 use Rattle.sc_eval.specs.declared.cells.Cell.{Cell}
 use Rattle.sc_eval.specs.Run.{run_to}
@@ -36,7 +34,7 @@ use Rattle.sc_duty.specs.Flows.{cell_of, IsFlowDuty}
 use Rattle.sc_duty.specs.Over.{IsSignatureOf}
 use Rattle.sc_duty.proofs.Gains.{static-gains, record-gains}
 use Rattle.sc_duty.proofs.Flows.{the-formula, static-leaks, record-leaks}
-use Rattle.sc_duty.specs.Listed.{IsObligation, IsUseDuty}
+use Rattle.sc_duty.specs.Listed.{IsUseDuty}
 use Rattle.sc_duty.proofs.Listed.{obligations-listed}
 use Rattle.sc_witness.specs.Back.{HasIds, IsBuildable}
 use Rattle.sc_witness.specs.Built.{built}
@@ -95,9 +93,11 @@ module _ (t : Script) (is : IsScript t) (g : Signature) (of_start : IsSignatureO
     gain-at (kind.Model n) e (x ∷ []) h = absurd h.elements.1
     gain-at (kind.Model n) e (x ∷ y ∷ []) h =
         let of_kind : is_kind_at t duty.command (kind.Model n) ≡ true = subst (λ (a : Kind). is_kind_at t duty.command a ≡ true) e of.kind in
-        let body : Formula = gain_body (record_at n (bound (sort_of t.start n) 1)) 2 in
-        (refl, record-gains t is duty of d on-start n of_kind x (suc x) (got m x h.elements.0) y (suc y) (got n y h.elements.1.0)
-        (on-database (x ∷ y ∷ []) body h.true_there))
+        let body : Formula = gain_body (record_at n (bound (sort_of t.start n) 1)) 2 in (
+          refl,
+          record-gains t is duty of d on-start n of_kind x (suc x) (got m x h.elements.0) y (suc y) (got n y h.elements.1.0)
+              (on-database (x ∷ y ∷ []) body h.true_there),
+        )
     gain-at (kind.Model n) e (x ∷ y ∷ z ∷ picks) h = absurd h.elements.1.1
 
     gains-by : (picks : List ℕ) → SatisfiesWith g (normal_form (gain_formula_of t duty)) st picks

@@ -1,14 +1,13 @@
 -- What the outcomes of a script say of it.
-use Rattle.std.proofs.Common.{◌≡◌, ℕ, Bool, true, false, List, [], refl, ap, sym, ◌∙◌, subst, inl, inr}
-use Rattle.std.specs.Prelude.{Option, Some, None, length, slice_get, Contains, MatchOption}
+use Rattle.std.proofs.Common.{◌≡◌, ℕ, true, [], ◌∙◌, subst}
+use Rattle.std.specs.Prelude.{Option, Some, None, Contains, MatchOption}
 use Rattle.std.specs.Option.{option_map_or}
 use Rattle.std.proofs.lemmas.Bool.{false_from_ne_true}
 use Rattle.std.proofs.lemmas.List.Elements.{Contains-get_or}
 use Rattle.std.proofs.lemmas.Option.{slice_get_within, get_or_from_slice_get}
 use Rattle.sc_schema.specs.Script.{Script, IsScript}
-use Rattle.sc_data.specs.Database.{Database}
 use Rattle.sc_eval.specs.Gain.{IsStart}
-use Rattle.sc_eval.specs.Secure.{IsSecure, IsStepSecure}
+use Rattle.sc_eval.specs.Secure.{IsStepSecure}
 use Rattle.sc_eval.proofs.Steps.{whole}
 use Rattle.sc_formula.specs.declared.structure.Signature.{Signature}
 use Rattle.sc_formula.specs.declared.structure.Structure.{Structure}
@@ -18,7 +17,6 @@ use Rattle.sc_formula.specs.Truth.{truth}
 use Rattle.sc_formula.proofs.NormalForms.{truth-signed_form}
 use Rattle.sc_terms.specs.Counts.{term_count, IsTooLarge}
 use Rattle.sc_terms.specs.Structures.{IsStructure}
-use Rattle.sc_terms.specs.Satisfying.{Satisfies}
 use Rattle.sc_terms.specs.Universe.{IsShallowTerm}
 use Rattle.sc_terms.proofs.Witnesses.{passes_where_true}
 use Rattle.sc_duty.specs.declared.duty.Duty.{Duty}
@@ -27,15 +25,14 @@ use Rattle.sc_duty.specs.Structures.{structure_of}
 use Rattle.sc_duty.specs.Gains.{IsGainDuty}
 use Rattle.sc_duty.specs.Flows.{cell_of}
 use Rattle.sc_duty.specs.Listed.{IsUseDuty}
-use Rattle.sc_duty.specs.Over.{IsSignatureOf}
 use Rattle.sc_duty.proofs.Gains.{true_gains}
 use Rattle.sc_duty.proofs.Flows.{true_flows}
 use Rattle.sc_duty.proofs.Listed.{from-list}
 use Rattle.sc_duty.proofs.Shapes.{structures_are_over, unsatisfied_secure}
 use Rattle.sc_witness.specs.Witness.{Witness}
-use Rattle.sc_verdict.specs.FailsBy.{IsGainOf, IsLeakOf, FailsBy}
-use Rattle.sc_verdict.specs.Outcomes.{Outcome, accepted, leak, undecided, too_large, IsCleared, Stratified, Shallow, normal_formula, IsDue, IsOutcome}
-use Rattle.sc_verdict.specs.Sound.{ClearedDoNotFail, AcceptedAreSecure, LeaksAreReal, IsDecidable, IsSettled, Accepted, Leak, DecidableAreSettled}
+use Rattle.sc_verdict.specs.FailsBy.{IsGainOf, IsLeakOf}
+use Rattle.sc_verdict.specs.Outcomes.{accepted, leak, undecided, too_large, IsCleared, Stratified, Shallow, normal_formula, IsDue}
+use Rattle.sc_verdict.specs.Sound.{ClearedDoNotFail, AcceptedAreSecure, LeaksAreReal, Accepted, Leak, DecidableAreSettled}
 
 -- a cleared formula is true on no structure
 cleared-false : (g : Signature) (f : Formula) → IsCleared g (normal_form f) → (s : Structure) → IsStructure g s → truth s [] f ≡ true → ⊥
@@ -51,9 +48,11 @@ fails-true : (t : Script) → IsScript t → (duty : Duty) (w : Witness) (spot :
     → (start : IsStart t w.base) × (truth (structure_of t.start w.base) [] (option_map_or (flow_formula_of t duty) spot (gain_formula_of t duty)) ≡ true)
 fails-true t is duty w None of h =
     (h.gain.start, (true_gains t is duty of w.base h.gain.start).1 (record { id = w.row; who = w.who; kind = h.kind; gain = h.gain }))
-fails-true t is duty w (Some spot) of h =
-    (h.flow.start, (true_flows t is duty spot h.model h.field h.init h.at h.duty_is w.base h.flow.start).1
-    (record { id = w.row; who = w.who; source = h.source; kind = h.kind; flow = h.flow; reads = h.reads }))
+fails-true t is duty w (Some spot) of h = (
+  h.flow.start,
+  (true_flows t is duty spot h.model h.field h.init h.at h.duty_is w.base h.flow.start).1
+      (record { id = w.row; who = w.who; source = h.source; kind = h.kind; flow = h.flow; reads = h.reads }),
+)
 
 pub cleared_do_not_fail : ClearedDoNotFail
 cleared_do_not_fail t is g of duty listed cleared w h =

@@ -1,4 +1,5 @@
 pub mod FailsBy
 pub mod Outcomes
 pub mod Picked
+pub mod Public
 pub mod Sound

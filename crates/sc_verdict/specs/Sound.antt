@@ -1,8 +1,6 @@
 -- What the outcomes of a script say of it.
-use Rattle.std.specs.Prelude.{◌≡◌, ℕ, Contains}
+use Rattle.std.specs.Prelude.{ℕ, Contains}
 use Rattle.sc_schema.specs.Script.{Script, IsScript}
-use Rattle.sc_data.specs.Database.{Database}
-use Rattle.sc_eval.specs.Gain.{GainAt, FlowAt}
 use Rattle.sc_eval.specs.Secure.{IsSecure, IsStepSecure}
 use Rattle.sc_formula.specs.declared.structure.Signature.{Signature}
 use Rattle.sc_strata.specs.SortGraph.{IsStratified}

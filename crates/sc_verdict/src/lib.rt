@@ -1,4 +1,15 @@
-//! The verdict on scripts.
+//! The verdict on scripts: definitions and laws.
+//!
+//! | module | holds |
+//! |---|---|
+//! | `laws` | laws over the definitions |
+//!
+//! | definitions | say |
+//! |---|---|
+//! | `specs/FailsBy.antt` | by which witness an obligation fails |
+//! | `specs/Picked.antt` | the witness that a structure stands for |
+//! | `specs/Outcomes.antt` | cleared obligations, and the outcomes of a script |
+//! | `specs/Sound.antt` | what the outcomes say of the script |
 #![tactic(auto)]
 
 mod laws;

@@ -1,0 +1,5 @@
+-- The words that speak of verdicts on scripts.
+pub use Rattle.sc_verdict.specs.FailsBy.{IsGainOf, IsLeakOf, FailsBy}
+pub use Rattle.sc_verdict.specs.Picked.{id_at, who_of, use_of, leaking_cell, picked_witness, PickedWitnessesFail}
+pub use Rattle.sc_verdict.specs.Outcomes.{Outcome, IsWithinLimits, IsShallowWithinLimits, IsCleared, IsTried, IsOpen, normal_formula, IsDue, IsLeak, IsUndecided, HasCounts, IsOutcomeOver, IsOutcome}
+pub use Rattle.sc_verdict.specs.Sound.{ClearedDoNotFail, AcceptedAreSecure, LeaksAreReal, IsDecidable, IsSettled, DecidableAreSettled}
