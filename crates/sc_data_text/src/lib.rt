@@ -1,0 +1,18 @@
+//! The texts of databases.
+//!
+//! | module | holds |
+//! |---|---|
+//! | `values` | the texts of ids and values |
+//! | `tables` | the texts of records and tables |
+//! | `databases` | `print_database` |
+//!
+//! `specs/Texts.antt` says what each text is.
+#![tactic(auto)]
+
+mod databases;
+mod tables;
+mod values;
+
+pub use databases::print_database;
+pub use tables::write_table;
+pub use values::{write_decimal, write_id};

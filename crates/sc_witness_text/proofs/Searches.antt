@@ -1,0 +1,31 @@
+-- Searches in lists that were made from others, and in two lists in a row.
+use Rattle.std.proofs.Common.{◌≡◌, ℕ, ◌+◌, Bool, true, false, not, List, [], ◌∷◌, ◌++◌, map, length, refl, ap, cond}
+use Rattle.std.specs.Prelude.{Option, Some, None, position}
+use Rattle.std.specs.List.{find, position_or_len, list_any}
+use Rattle.std.specs.Option.{option_map, option_map_or}
+use Rattle.std.proofs.Math.Dec.{ltb}
+use Rattle.std.proofs.lemmas.List.{length-map}
+pub use Rattle.sc_records.proofs.Searches.{find-seen}
+
+places : {A B : Type 0} (p : B → Bool) (g : A → B) (xs : List A) → position_or_len p (map g xs) ≡ position_or_len (λ x. p (g x)) xs
+places p g [] = refl
+places p g (x ∷ xs) = ap (λ n. cond (not (p (g x))) (1 + n) 0) (places p g xs)
+
+pub position_of_map : {A B : Type 0} (p : B → Bool) (g : A → B) (xs : List A) → position p (map g xs) ≡ position (λ x. p (g x)) xs
+position_of_map p g xs = rw (places p g xs, length-map xs g) refl
+
+pub find_in_both : {A : Type 0} (p : A → Bool) (xs ys : List A) (x : A) → find p xs ≡ Some x → find p (xs ++ ys) ≡ Some x
+find_in_both p [] ys x e = cc
+find_in_both {A} p (z ∷ xs) ys x e =
+    elim (p z) as (λ (b : Bool). cond b (Some z) (find p xs) ≡ Some x → cond b (Some z) (find p (xs ++ ys)) ≡ Some x) [
+      | true ↦ λ h. h
+      | false ↦ λ h. find_in_both p xs ys x h
+    ] e
+
+pub find_behind : {A : Type 0} (p : A → Bool) (xs ys : List A) → find p xs ≡ None → find p (xs ++ ys) ≡ find p ys
+find_behind p [] ys e = refl
+find_behind {A} p (z ∷ xs) ys e =
+    elim (p z) as (λ (b : Bool). cond b (Some z) (find p xs) ≡ None → cond b (Some z) (find p (xs ++ ys)) ≡ find p ys) [
+      | true ↦ λ h. cc
+      | false ↦ λ h. find_behind p xs ys h
+    ] e
