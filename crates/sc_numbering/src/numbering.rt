@@ -1,6 +1,6 @@
 //! Numbers of sorts, functions and set relations.
 
-ghost use Rattle.std.specs.Prelude.{◌≡◌, IfOk, map};
+ghost use Rattle.std.specs.Prelude.{◌≡◌, IfOk, length, map};
 ghost use Rattle.sc_schema.specs.Schema as plain;
 ghost use Rattle.sc_schema.specs.SchemaViews.{model_info_of, schema_of};
 ghost use Rattle.sc_schema.specs.Proper.{model_numbers as numbers_in};
@@ -62,6 +62,27 @@ impl Numbering {
             functions,
             relations,
         })
+    }
+
+    /// How many sorts there are.
+    pub fn sorts(&self) -> u32
+        ensures { result ≡ length self.now.models }
+    {
+        self.sorts.len()
+    }
+
+    /// How many functions there are.
+    pub fn functions(&self) -> u32
+        ensures { result ≡ length self.now.functions }
+    {
+        self.functions.len()
+    }
+
+    /// How many set relations there are.
+    pub fn relations(&self) -> u32
+        ensures { result ≡ length self.now.relations }
+    {
+        self.relations.len()
     }
 
     /// The sort that a model is. If there is no such model, it is the number of sorts.

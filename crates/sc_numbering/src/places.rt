@@ -59,6 +59,13 @@ impl<K: Eq + Hash + Copy + Drop> Places<K> {
         Ok(Places { keys, firsts })
     }
 
+    /// How many keys there are.
+    pub(crate) fn len(&self) -> u32
+        ensures { result ≡ length self.now }
+    {
+        self.keys.as_slice().len() as u32
+    }
+
     /// How many keys stand before the first that is equal to this one.
     pub(crate) fn place_of(&self, key: K) -> u32
         ensures { result ≡ before (λ x. K.eq x key) self.now }
