@@ -11,6 +11,8 @@
 
 mod databases;
 mod tables;
+#[cfg(test)]
+mod tests;
 mod values;
 
 pub use databases::print_database;

@@ -38,6 +38,12 @@ abbrev pub marked : List ℕ → Option ℕ → List ℕ
 marked name None = name
 marked name (Some before) = concat (name ∷ codes "@" ∷ decimal (suc before) ∷ [])
 
+abbrev pub right_text : Right → List ℕ
+right_text Read = codes "read"
+right_text Write = codes "write"
+right_text Create = codes "create"
+right_text Delete = codes "delete"
+
 module _ (t : Script) where
   abbrev pub model_text : ℕ → List ℕ
   model_text m =
@@ -60,12 +66,6 @@ module _ (t : Script) where
   database_text d = flat_map (λ (m : ModelInfo). table_text (model_text m.number) d m) t.start.models
 
   -- ---- witnesses, line by line
-
-  abbrev pub right_text : Right → List ℕ
-  right_text Read = codes "read"
-  right_text Write = codes "write"
-  right_text Create = codes "create"
-  right_text Delete = codes "delete"
 
   -- what a right is on, as it is named after k commands
   abbrev pub target_text : ℕ → Target → List ℕ

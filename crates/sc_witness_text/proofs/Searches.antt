@@ -1,6 +1,6 @@
 -- Searches in lists that were made from others, and in two lists in a row.
-use Rattle.std.proofs.Common.{◌≡◌, ℕ, ◌+◌, Bool, true, false, not, List, [], ◌∷◌, ◌++◌, map, length, refl, ap, cond}
-use Rattle.std.specs.Prelude.{Option, Some, None, position}
+use Rattle.std.proofs.Common.{◌≡◌, ℕ, zero, suc, ◌+◌, get_or, sym, ◌∙◌, Bool, true, false, not, List, [], ◌∷◌, ◌++◌, map, length, refl, ap, cond}
+use Rattle.std.specs.Prelude.{Option, Some, None, option_and_then, position}
 use Rattle.std.specs.List.{find, position_or_len, list_any}
 use Rattle.std.specs.Option.{option_map, option_map_or}
 use Rattle.std.proofs.Math.Dec.{ltb}
@@ -29,3 +29,26 @@ find_behind {A} p (z ∷ xs) ys e =
       | true ↦ λ h. cc
       | false ↦ λ h. find_behind p xs ys h
     ] e
+
+-- what is found in a list, and what is taken of it
+pub looked-up : {A B C : Type 0} (p : B → Bool) (f : A → B) (g : B → C) (d : C) (xs : List A) (o : Option A) → o ≡ find (λ x. p (f x)) xs
+    → option_map_or g (find p (map f xs)) d ≡ option_map_or (λ x. g (f x)) o d
+looked-up {A} {B} {C} p f g d xs o e = ap (λ q. option_map_or g q d) (find-seen p f xs ∙ ap (option_map f) (sym e)) ∙ go o
+  where
+    go : (o : Option A) → option_map_or g (option_map f o) d ≡ option_map_or (λ x. g (f x)) o d
+    go None = refl
+    go (Some x) = refl
+
+pub looked-further : {A B C : Type 0} (p : B → Bool) (f : A → B) (g : B → Option C) (xs : List A) (o : Option A) → o ≡ find (λ x. p (f x)) xs
+    → option_and_then g (find p (map f xs)) ≡ option_and_then (λ x. g (f x)) o
+looked-further {A} {B} {C} p f g xs o e = ap (option_and_then g) (find-seen p f xs ∙ ap (option_map f) (sym e)) ∙ go o
+  where
+    go : (o : Option A) → option_and_then g (option_map f o) ≡ option_and_then (λ x. g (f x)) o
+    go None = refl
+    go (Some x) = refl
+
+pub read-through : {A B : Type 0} (f : A → B) (xs : List A) (k : ℕ) (d : A) → get_or (map f xs) k (f d) ≡ f (get_or xs k d)
+read-through f [] zero d = refl
+read-through f [] (suc k) d = refl
+read-through f (x ∷ xs) zero d = refl
+read-through f (x ∷ xs) (suc k) d = read-through f xs k d

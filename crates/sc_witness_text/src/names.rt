@@ -1,20 +1,20 @@
 //! Names, with the number of the command that adds what they name.
 
 ghost use Rattle.std.specs.Prelude.{◌≡◌, ◌==◌, ◌++◌, [], IfOk, OnOk, map, option_copied};
-ghost use Rattle.std.specs.List.{find};
-ghost use Rattle.std.specs.Option.{option_map, option_map_or};
+ghost use Rattle.std.specs.List.{find, flat_map};
+ghost use Rattle.std.specs.Option.{option_map_or};
 ghost use Rattle.sc_schema.specs.Schema.{field_of, model_of};
-ghost use Rattle.sc_schema.specs.SchemaViews.{model_info_of, schema_of, script_of};
-ghost use Rattle.sc_schema.specs.SchemaViews.{command_of, static_info_of};
+ghost use Rattle.sc_schema.specs.SchemaViews.{command_of, field_info_of, schema_of};
+ghost use Rattle.sc_schema.specs.SchemaViews.{script_of};
 ghost use Rattle.sc_schema.specs.Script.{schema_at};
 ghost use Rattle.sc_witness.specs.Printed.{field_text, marked, model_text, static_text};
 ghost use Rattle.sc_witness.specs.Printed.{statics_by};
-ghost use Rattle.std.specs.List.{flat_map};
 
 use crate::added::{added_static, before_model, before_static};
 use sc_data_text::write_decimal;
 use sc_print::Printer;
-use sc_schema::{FieldInfo, FieldNo, ModelInfo, ModelNo, Schema, StaticInfo, StaticNo, TScript};
+use sc_schema::{FieldInfo, FieldNo, ModelInfo, ModelNo, Schema, StaticInfo, StaticNo};
+use sc_schema::{TCommand, TScript};
 use std::alloc::{AllocError, Global};
 
 /// The model of this number.
@@ -48,15 +48,34 @@ fn model_name(s: &Schema, m: ModelNo) -> &[u8]
     }
 }
 
+/// The name of a field of a model, empty where there is none.
+fn name_in(info: &ModelInfo, f: FieldNo) -> &[u8]
+    ensures { result.now ≡ option_map_or (λ field. field.name)
+        (find (λ field. field.number == f) (map field_info_of info.now.fields)) [] }
+{
+    match field_in(info.fields.as_slice(), f) {
+        Some(field) => field.name.bytes(),
+        None => b"",
+    }
+}
+
 /// The name of a field of a schema, empty where there is none.
 fn field_name(s: &Schema, m: ModelNo, f: FieldNo) -> &[u8]
     ensures { result.now ≡ option_map_or (λ info. info.name) (field_of (schema_of s.now) m f) [] }
 {
-    let Some(info) = model_in(s.models.as_slice(), m) else {
-        return b"";
-    };
-    match field_in(info.fields.as_slice(), f) {
-        Some(field) => field.name.bytes(),
+    match model_in(s.models.as_slice(), m) {
+        Some(info) => name_in(info, f),
+        None => b"",
+    }
+}
+
+/// The name of a static that a command adds, empty where there is none.
+fn added_name(commands: &[TCommand], n: StaticNo) -> &[u8]
+    ensures { result.now ≡ option_map_or (λ info. info.name) (find (λ info. info.number == n)
+        (flat_map statics_by (map command_of commands.now))) [] }
+{
+    match added_static(commands, n) {
+        Some(info) => info.name.bytes(),
         None => b"",
     }
 }
@@ -67,12 +86,9 @@ fn static_name(t: &TScript, n: StaticNo) -> &[u8]
     ensures { result.now ≡ option_map_or (λ info. info.name) (find (λ info. info.number == n)
         ((script_of t.now).start.statics ++ flat_map statics_by (script_of t.now).commands)) [] }
 {
-    if let Some(info) = static_in(t.start.statics.as_slice(), n) {
-        return info.name.bytes();
-    }
-    match added_static(t.commands.as_slice(), n) {
+    match static_in(t.start.statics.as_slice(), n) {
         Some(info) => info.name.bytes(),
-        None => b"",
+        None => added_name(t.commands.as_slice(), n),
     }
 }
 
@@ -117,7 +133,8 @@ pub(crate) fn write_model(
     ensures { OnOk result (out.new ≡ out.old ++ model_text (script_of t.now) m) }
 {
     let before = before_model(t.commands.as_slice(), m);
-    write_marked(out, alloc, model_name(&t.start, m), before)
+    write_marked(out, alloc, model_name(&t.start, m), before)?;
+    Ok(())
 }
 
 /// The name of a model, as it is written.
@@ -143,7 +160,8 @@ pub(crate) fn write_static(
     ensures { OnOk result (out.new ≡ out.old ++ static_text (script_of t.now) n) }
 {
     let before = before_static(t.commands.as_slice(), n);
-    write_marked(out, alloc, static_name(t, n), before)
+    write_marked(out, alloc, static_name(t, n), before)?;
+    Ok(())
 }
 
 /// Writes the name that a field has after so many commands.

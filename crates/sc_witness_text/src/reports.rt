@@ -60,6 +60,21 @@ fn write_duty(
     Ok(())
 }
 
+/// Writes a model with an arrow behind it.
+fn write_step(
+    out: &mut Printer,
+    alloc: Global,
+    t: &TScript,
+    m: ModelNo,
+) -> Result<(), AllocError>
+    ensures { OnOk result (out.new
+        ≡ out.old ++ (model_text (script_of t.now) m ++ codes " -> ")) }
+{
+    write_model(out, alloc, t, m)?;
+    out.put(b" -> ")?;
+    Ok(())
+}
+
 /// Writes models, each with an arrow behind it.
 fn write_steps(
     out: &mut Printer,
@@ -71,8 +86,7 @@ fn write_steps(
         (λ m. model_text (script_of t.now) m ++ codes " -> ") models.now) }
 {
     for m in models {
-        write_model(out, alloc, t, *m)?;
-        out.put(b" -> ")?;
+        write_step(out, alloc, t, *m)?;
     }
     Ok(())
 }

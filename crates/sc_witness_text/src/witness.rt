@@ -141,7 +141,8 @@ fn write_database(
 ) -> Result<(), AllocError>
     ensures { OnOk result (out.new ≡ out.old ++ database_text (script_of t.now) base.now) }
 {
-    write_tables(out, alloc, t, t.start.models.as_slice(), base)
+    write_tables(out, alloc, t, t.start.models.as_slice(), base)?;
+    Ok(())
 }
 
 /// The text of a witness of a script: a line for each part, then the database. The name of a model
