@@ -16,11 +16,7 @@ use std::alloc::{AllocError, Global};
 ///
 /// It takes time in the order of the records and their fields, and for each set relation of its
 /// pairs times the elements of both sorts.
-pub fn build(
-    alloc: Global,
-    structure: &Structure,
-    s: &Schema,
-) -> Result<Database, AllocError>
+pub fn build(alloc: Global, structure: &Structure, s: &Schema) -> Result<Database, AllocError>
     ensures { IfOk result (λ d. d ≡ built (schema_of s.now) structure.now) }
 {
     let numbering = Numbering::of(alloc, s)?;

@@ -29,11 +29,7 @@ fn write_tables(
 
 /// The text of a database over the schema: models, records and fields in the order of the schema,
 /// by rising id, each table with its next id.
-pub fn print_database(
-    alloc: Global,
-    database: &Database,
-    s: &Schema,
-) -> Result<Vec<u8>, AllocError>
+pub fn print_database(alloc: Global, database: &Database, s: &Schema) -> Result<Vec<u8>, AllocError>
     ensures { IfOk result (λ text. text.items
         ≡ database_text (schema_of s.now) database.now) }
 {

@@ -64,7 +64,11 @@ fn schema_of_users(alloc: Global) -> Result<Schema, Fail> {
 fn insert_two(alloc: Global, database: &mut Database) -> Result<(), Fail> {
     let info = users(alloc)?;
     let age = Value::Just(Boxed::new(alloc, Value::Num(-30))?);
-    let row = [text(alloc, b"a@x\n\x01")?, Value::Ids(Items::new(alloc)), age];
+    let row = [
+        text(alloc, b"a@x\n\x01")?,
+        Value::Ids(Items::new(alloc)),
+        age,
+    ];
     database.insert(alloc, &info, &row)?;
     let both: &[u64] = &[1, 2];
     let friends = Value::Ids(Items::from_slice(alloc, both)?);

@@ -34,13 +34,7 @@ fn static_by(command: &TCommand, n: StaticNo) -> Option<&StaticInfo>
         ≡ find (λ info. info.number == n) (statics_by (command_of command.now)) }
 {
     match command {
-        TCommand::AddStatic(info) => {
-            if info.number == n {
-                Some(info)
-            } else {
-                None
-            }
-        }
+        TCommand::AddStatic(info) => { if info.number == n { Some(info) } else { None } }
         TCommand::CreateModel(_)
         | TCommand::DeleteModel(_)
         | TCommand::RemoveStatic(_)

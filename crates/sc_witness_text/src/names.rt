@@ -13,8 +13,9 @@ ghost use Rattle.sc_witness.specs.Printed.{statics_by};
 use crate::added::{added_static, before_model, before_static};
 use sc_data_text::write_decimal;
 use sc_print::Printer;
-use sc_schema::{FieldInfo, FieldNo, ModelInfo, ModelNo, Schema, StaticInfo, StaticNo};
-use sc_schema::{TCommand, TScript};
+use sc_schema::{
+    FieldInfo, FieldNo, ModelInfo, ModelNo, Schema, StaticInfo, StaticNo, TCommand, TScript,
+};
 use std::alloc::{AllocError, Global};
 
 /// The model of this number.
@@ -138,11 +139,7 @@ pub(crate) fn write_model(
 }
 
 /// The name of a model, as it is written.
-pub(crate) fn marked_model(
-    alloc: Global,
-    t: &TScript,
-    m: ModelNo,
-) -> Result<Vec<u8>, AllocError>
+pub(crate) fn marked_model(alloc: Global, t: &TScript, m: ModelNo) -> Result<Vec<u8>, AllocError>
     ensures { IfOk result (λ name. name.items ≡ model_text (script_of t.now) m) }
 {
     let mut out = Printer::new(alloc);

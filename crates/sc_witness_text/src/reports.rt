@@ -30,12 +30,7 @@ fn write_use(out: &mut Printer, alloc: Global, spot: Option<u32>) -> Result<(), 
 }
 
 /// Writes a kind of principals.
-fn write_kind(
-    out: &mut Printer,
-    alloc: Global,
-    t: &TScript,
-    kind: Kind,
-) -> Result<(), AllocError>
+fn write_kind(out: &mut Printer, alloc: Global, t: &TScript, kind: Kind) -> Result<(), AllocError>
     ensures { OnOk result (out.new ≡ out.old ++ kind_text (script_of t.now) kind) }
 {
     match kind {
@@ -45,12 +40,7 @@ fn write_kind(
 }
 
 /// Writes an obligation.
-fn write_duty(
-    out: &mut Printer,
-    alloc: Global,
-    t: &TScript,
-    duty: Duty,
-) -> Result<(), AllocError>
+fn write_duty(out: &mut Printer, alloc: Global, t: &TScript, duty: Duty) -> Result<(), AllocError>
     ensures { OnOk result (out.new ≡ out.old ++ duty_text (script_of t.now) duty) }
 {
     write_access(out, alloc, t, duty.command, duty.target, duty.right)?;
@@ -61,12 +51,7 @@ fn write_duty(
 }
 
 /// Writes a model with an arrow behind it.
-fn write_step(
-    out: &mut Printer,
-    alloc: Global,
-    t: &TScript,
-    m: ModelNo,
-) -> Result<(), AllocError>
+fn write_step(out: &mut Printer, alloc: Global, t: &TScript, m: ModelNo) -> Result<(), AllocError>
     ensures { OnOk result (out.new
         ≡ out.old ++ (model_text (script_of t.now) m ++ codes " -> ")) }
 {

@@ -147,11 +147,7 @@ fn write_database(
 
 /// The text of a witness of a script: a line for each part, then the database. The name of a model
 /// or a static that the script adds carries the number of its command.
-pub fn print_witness(
-    alloc: Global,
-    w: &Witness,
-    t: &TScript,
-) -> Result<Vec<u8>, AllocError>
+pub fn print_witness(alloc: Global, w: &Witness, t: &TScript) -> Result<Vec<u8>, AllocError>
     ensures { IfOk result (λ text. text.items
         ≡ witness_text (script_of t.now) (witness_data w.now)) }
 {

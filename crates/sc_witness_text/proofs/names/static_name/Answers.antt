@@ -19,8 +19,8 @@ returns-in-Some c =
 pub returns-in-None : goal.returns-in-None
 returns-in-None c =
     let none : find (λ (i : StaticInfo). i.number == c.args.n) (map static_info_of c.args.t.now.start.statics) ≡ None =
-        find-seen (λ (i : StaticInfo). i.number == c.args.n) static_info_of c.args.t.now.start.statics
-        ∙ ap (option_map static_info_of) (sym (subst (λ xs. None ≡ find (λ i. i.number == c.args.n) xs) c.as_slice.ensures c.in-None.ensures)) in
+    find-seen (λ (i : StaticInfo). i.number == c.args.n) static_info_of c.args.t.now.start.statics
+    ∙ ap (option_map static_info_of) (sym (subst (λ xs. None ≡ find (λ i. i.number == c.args.n) xs) c.as_slice.ensures c.in-None.ensures)) in
     subst (λ commands. c.added_name.result.now ≡ option_map_or (λ (i : StaticInfo). i.name) (find (λ (i : StaticInfo). i.number == c.args.n) (flat_map statics_by (map command_of commands))) []) c.as_slice-in-None.ensures c.added_name.ensures
     ∙ ap (λ o. option_map_or (λ (i : StaticInfo). i.name) o [])
     (sym (find_behind (λ (i : StaticInfo). i.number == c.args.n) (map static_info_of c.args.t.now.start.statics) (flat_map statics_by (map command_of c.args.t.now.commands)) none))

@@ -12,9 +12,9 @@ use Rattle.sc_witness_text.proofs.names.write_model.Goals as goal
 pub returns : goal.returns
 returns c =
     let place : c.before_model-before.result ≡ position (λ k. list_any (λ (i : ModelInfo). i.number == c.args.m) (created_by k)) (map command_of c.args.t.now.commands) =
-        c.before_model-before.ensures
-        ∙ ap (position (λ k. list_any (λ (i : ModelInfo). i.number == c.args.m) (created_by (command_of k)))) c.as_slice.ensures
-        ∙ sym (position_of_map (λ k. list_any (λ (i : ModelInfo). i.number == c.args.m) (created_by k)) command_of c.args.t.now.commands) in
+    c.before_model-before.ensures
+    ∙ ap (position (λ k. list_any (λ (i : ModelInfo). i.number == c.args.m) (created_by (command_of k)))) c.as_slice.ensures
+    ∙ sym (position_of_map (λ k. list_any (λ (i : ModelInfo). i.number == c.args.m) (created_by k)) command_of c.args.t.now.commands) in
     c.in_ok-write_marked.ensures
     ∙ ap (λ name. c.args.out.now ++ marked name c.before_model-before.result) c.model_name.ensures
     ∙ ap (λ b. c.args.out.now ++ marked (option_map_or (λ (i : ModelInfo). i.name) (model_of (schema_of c.args.t.now.start) c.args.m) []) b) place
