@@ -1,6 +1,6 @@
 -- Where the text of a record ends, and that of the records of a table.
-use Rattle.std.proofs.Common.{◌≡◌, ℕ, suc, ◌+◌, ◌^◌, ◌<◌, ◌≤◌, Bool, true, false, List, [], ◌∷◌, ◌++◌, map, refl, sym, ◌∙◌, ap, subst, cond, arith, append_assoc, append-nil, codes}
-use Rattle.std.specs.Prelude.{Option, Some, None, ◌==◌, nat_eq}
+use Rattle.std.proofs.Common.{◌≡◌, ℕ, ◌+◌, ◌≤◌, false, List, [], ◌∷◌, ◌++◌, refl, sym, ◌∙◌, ap, cond, arith, append_assoc, append-nil, codes}
+use Rattle.std.specs.Prelude.{Some, ◌==◌, nat_eq}
 use Rattle.std.specs.List.{find, flat_map, join_by, concat, AllByRecursion, IsDistinct}
 use Rattle.std.specs.Option.{option_map_or}
 use Rattle.std.proofs.lemmas.Bool.{eq-eqb}

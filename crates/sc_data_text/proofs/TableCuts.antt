@@ -1,6 +1,6 @@
 -- The text of a database tells it.
-use Rattle.std.proofs.Common.{◌≡◌, ℕ, suc, ◌+◌, ◌^◌, ◌<◌, ◌≤◌, Bool, true, false, List, [], ◌∷◌, ◌++◌, map, refl, sym, ◌∙◌, ap, subst, cond, arith, append_assoc, append-nil, codes}
-use Rattle.std.specs.Prelude.{Option, Some, None, ◌==◌, nat_eq}
+use Rattle.std.proofs.Common.{◌≡◌, ℕ, false, List, [], ◌∷◌, ◌++◌, map, refl, sym, ◌∙◌, ap, subst, cond, arith, append_assoc, codes}
+use Rattle.std.specs.Prelude.{Option, Some, ◌==◌, nat_eq}
 use Rattle.std.specs.List.{find, flat_map, concat, AllByRecursion, IsDistinct}
 use Rattle.std.specs.Option.{option_map_or}
 use Rattle.std.proofs.lemmas.Bool.{eq-eqb, eqb-true}
@@ -8,7 +8,7 @@ use Rattle.sc_schema.specs.Schema.{ModelInfo, Schema}
 use Rattle.sc_schema.specs.Proper.{field_numbers, model_numbers}
 use Rattle.sc_data.specs.Database.{Record, Table, Database, table_of, HasTable, IsDatabase}
 use Rattle.sc_data.proofs.Finds.{find-holds}
-use Rattle.sc_data_text.specs.Texts.{id_text, record_text, table_text, database_text}
+use Rattle.sc_data_text.specs.Texts.{id_text, record_text, table_text}
 use Rattle.sc_data_text.specs.Told.{IsInOrder, TextsTellDatabases}
 use Rattle.sc_data_text.proofs.Cuts.{cancel, both, id-cut}
 use Rattle.sc_data_text.proofs.RecordCuts.{records-cut}

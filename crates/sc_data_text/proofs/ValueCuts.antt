@@ -1,6 +1,6 @@
 -- Where the text of a value of a type ends.
-use Rattle.std.proofs.Common.{rules, ◌≡◌, ℕ, suc, ◌+◌, ◌^◌, ◌<◌, ◌≤◌, Bool, true, false, List, [], ◌∷◌, ◌++◌, refl, sym, ◌∙◌, ap, subst, arith, append_assoc, append-nil, codes, inl, inr}
-use Rattle.std.specs.Prelude.{ℤ, pos, negsuc, ◌⊎◌, FitsSigned}
+use Rattle.std.proofs.Common.{rules, ◌≡◌, ℕ, ◌^◌, ◌<◌, Bool, true, false, List, [], ◌∷◌, ◌++◌, refl, sym, ◌∙◌, ap, arith, append_assoc, codes, inl, inr}
+use Rattle.std.specs.Prelude.{ℤ, ◌⊎◌, FitsSigned}
 use Rattle.std.specs.Int.{w64}
 use Rattle.std.specs.Int.Signed.{mag}
 use Rattle.std.specs.List.{flat_map, join_by, AllByRecursion}

@@ -1,9 +1,8 @@
 -- Searches in lists that were made from others, and in two lists in a row.
-use Rattle.std.proofs.Common.{◌≡◌, ℕ, zero, suc, ◌+◌, get_or, sym, ◌∙◌, Bool, true, false, not, List, [], ◌∷◌, ◌++◌, map, length, refl, ap, cond}
+use Rattle.std.proofs.Common.{◌≡◌, ℕ, zero, suc, ◌+◌, get_or, sym, ◌∙◌, Bool, true, false, not, List, [], ◌∷◌, ◌++◌, map, refl, ap, cond}
 use Rattle.std.specs.Prelude.{Option, Some, None, option_and_then, position}
-use Rattle.std.specs.List.{find, position_or_len, list_any}
+use Rattle.std.specs.List.{find, position_or_len}
 use Rattle.std.specs.Option.{option_map, option_map_or}
-use Rattle.std.proofs.Math.Dec.{ltb}
 use Rattle.std.proofs.lemmas.List.{length-map}
 pub use Rattle.sc_records.proofs.Searches.{find-seen}
 

@@ -1,4 +1,3 @@
-use Rattle.std.proofs.Common.{◌≡◌, sym, ◌∙◌, ap}
 use Rattle.sc_schema.specs.SchemaViews.{model_info_of}
 use Rattle.sc_data_text.specs.Texts.{table_text}
 use Rattle.sc_data_text.proofs.Mapped.{flat_map_of_map}

@@ -1,4 +1,4 @@
-use Rattle.std.proofs.Common.{◌≡◌, ◌++◌, append_assoc, append-nil, sym, ◌∙◌, ap}
+use Rattle.std.proofs.Common.{◌≡◌, append_assoc, sym, ◌∙◌, ap}
 use Rattle.std.specs.List.{flat_map}
 use Rattle.sc_schema.specs.SchemaViews.{model_info_of}
 use Rattle.sc_records.specs.Views.{record_data}
