@@ -1,13 +1,12 @@
 -- Where a name ends, and the number of a command behind it.
-use Rattle.std.proofs.Common.{◌≡◌, ℕ, zero, suc, ◌+◌, ◌^◌, ◌<◌, ◌≤◌, Bool, true, false, not, ◌&&◌, ◌||◌, List, [], ◌∷◌, ◌++◌, map, refl, sym, ◌∙◌, ap, subst, cond, arith, append_assoc, append-nil, codes, length}
-use Rattle.std.specs.Prelude.{Option, Some, None, position, ◌==◌, nat_le}
-use Rattle.std.specs.Char.{digit_value}
+use Rattle.std.proofs.Common.{◌≡◌, ℕ, suc, ◌+◌, ◌^◌, ◌<◌, ◌≤◌, Bool, true, false, not, ◌&&◌, ◌||◌, List, [], ◌∷◌, ◌++◌, refl, sym, ◌∙◌, ap, subst, cond, arith, append_assoc, append-nil, codes, length}
+use Rattle.std.specs.Prelude.{Option, Some, None, position, nat_le}
 use Rattle.std.specs.Fmt.{decimal}
 use Rattle.std.specs.List.{list_all, list_any, position_or_len}
 use Rattle.std.proofs.Math.Dec.{ltb}
 use Rattle.std.proofs.lemmas.Bool.{ltb-true, ltb-false}
 use Rattle.sc_lexer.specs.declared.limits.TheConstants.{MOST_NAME_BYTES}
-use Rattle.sc_ast.specs.Words.{begins_with_letter, is_name_byte, is_name, IsName}
+use Rattle.sc_ast.specs.Words.{begins_with_letter, is_name_byte, IsName}
 use Rattle.sc_data_text.proofs.Cuts.{cancel, both, front, Stops, decimal-cut}
 use Rattle.sc_witness.specs.Printed.{marked}
 

@@ -1,5 +1,5 @@
 -- Things with numbers and names, of which some are there at first and others are added by commands.
-use Rattle.std.proofs.Common.{◌≡◌, ℕ, suc, ◌+◌, ◌^◌, ◌<◌, ◌≤◌, Bool, true, false, ◌||◌, List, [], ◌∷◌, ◌++◌, map, refl, sym, ◌∙◌, ap, subst, cond, arith, length}
+use Rattle.std.proofs.Common.{◌≡◌, ℕ, ◌^◌, ◌<◌, Bool, true, false, ◌||◌, List, [], ◌∷◌, ◌++◌, map, refl, sym, ◌∙◌, ap, subst, cond, arith, length}
 use Rattle.std.specs.Prelude.{Option, Some, None, position, ◌==◌}
 use Rattle.std.specs.List.{find, flat_map, list_any, AllByRecursion, IsDistinct}
 use Rattle.std.specs.Option.{option_map_or}

@@ -1,10 +1,9 @@
 -- The text of a witness tells it.
-use Rattle.std.proofs.Common.{◌≡◌, ℕ, suc, ◌+◌, ◌^◌, ◌<◌, ◌≤◌, Bool, true, false, ◌||◌, List, [], ◌∷◌, ◌++◌, map, refl, sym, ◌∙◌, ap, subst, cond, arith, append_assoc, append-nil, codes, length, length-append}
-use Rattle.std.specs.Prelude.{Option, Some, None, is_some, option_and_then, position, ◌==◌, nat_eq}
+use Rattle.std.proofs.Common.{◌≡◌, ℕ, ◌^◌, ◌<◌, ◌≤◌, Bool, true, false, ◌||◌, List, [], ◌∷◌, ◌++◌, map, refl, sym, ◌∙◌, ap, subst, arith, append_assoc, append-nil, codes, length, length-append}
+use Rattle.std.specs.Prelude.{Option, Some, None, is_some, option_and_then, position, ◌==◌}
 use Rattle.std.specs.Fmt.{decimal}
-use Rattle.std.specs.List.{find, flat_map, list_any, concat, AllByRecursion, IsDistinct}
+use Rattle.std.specs.List.{find, flat_map, list_any, concat, AllByRecursion}
 use Rattle.std.specs.Option.{option_map_or}
-use Rattle.std.specs.Str.{bytes_eq}
 use Rattle.std.proofs.lemmas.Bool.{eqb-true}
 use Rattle.sc_ast.specs.Words.{IsName}
 use Rattle.sc_schema.specs.declared.rights.Right.{Right}
@@ -14,7 +13,7 @@ use Rattle.sc_schema.specs.declared.rights.Target.TheVariants as on
 use Rattle.sc_schema.specs.Schema.{StaticInfo, FieldInfo, ModelInfo, Schema, model_of, field_in, field_of, model_of_target}
 use Rattle.sc_schema.specs.Typing.{HasModel}
 use Rattle.sc_schema.specs.Commands.{Command, create_model, delete_model, add_static, remove_static, add_principal, add_field, remove_field, update_field, weaken_field, update_model, weaken_model, HasField}
-use Rattle.sc_schema.specs.Proper.{AreProperFields, names_of}
+use Rattle.sc_schema.specs.Proper.{AreProperFields}
 use Rattle.sc_schema.specs.Script.{Script, schema_at, created_by, created, count, IsScript}
 use Rattle.sc_data.specs.declared.principals.Principal.{Principal}
 use Rattle.sc_data.specs.declared.principals.Principal.TheVariants.{Static, Rec}

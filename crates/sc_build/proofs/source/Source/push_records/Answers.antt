@@ -1,4 +1,4 @@
-use Rattle.std.proofs.Common.{◌++◌, ◌∷◌, [], ◌+◌, map, ap, sym, ◌∙◌, append_assoc}
+use Rattle.std.proofs.Common.{◌++◌, ◌∷◌, [], map, ap, sym, ◌∙◌, append_assoc}
 use Rattle.std.specs.List.{range_with_len}
 use Rattle.sc_records.specs.Views.{record_data}
 use Rattle.sc_schema.specs.SchemaViews.{model_info_of, schema_of}

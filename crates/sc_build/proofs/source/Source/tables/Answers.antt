@@ -1,4 +1,4 @@
-use Rattle.std.proofs.Common.{◌≡◌, ◌++◌, map, ap, sym, ◌∙◌}
+use Rattle.std.proofs.Common.{◌++◌, map, ap, sym, ◌∙◌}
 use Rattle.sc_records.specs.Views.{table_data}
 use Rattle.sc_schema.specs.SchemaViews.{model_info_of, schema_of}
 use Rattle.sc_witness.specs.Built.{built_table}
