@@ -4,7 +4,7 @@ use Rattle.std.specs.List.{find, flat_map, AllByRecursion}
 use Rattle.sc_ast.specs.Words.{IsName}
 use Rattle.sc_schema.specs.declared.rights.Target.{Target}
 use Rattle.sc_schema.specs.declared.rights.Target.TheVariants as on
-use Rattle.sc_schema.specs.Schema.{StaticInfo, FieldInfo, ModelInfo, field_of}
+use Rattle.sc_schema.specs.Schema.{StaticInfo, FieldInfo, ModelInfo, Schema, field_of}
 use Rattle.sc_schema.specs.Typing.{HasModel}
 use Rattle.sc_schema.specs.Commands.{HasField}
 use Rattle.sc_schema.specs.Script.{Script, schema_at, count, IsScript}
@@ -13,7 +13,9 @@ use Rattle.sc_data.specs.declared.principals.Principal.TheVariants.{Static, Rec}
 use Rattle.sc_data.specs.Values.{IsId}
 use Rattle.sc_data.specs.Database.{IsDatabase}
 use Rattle.sc_eval.specs.declared.cells.Cell.{Cell}
+use Rattle.sc_formula.specs.declared.structure.Structure.{Structure}
 use Rattle.sc_data_text.specs.Told.{IsInOrder}
+use Rattle.sc_witness.specs.Built.{built}
 use Rattle.sc_witness.specs.Printed.{statics_by, witness_text}
 use Rattle.sc_witness.specs.Witness.{Witness}
 
@@ -55,3 +57,7 @@ pub record IsWitnessOf (t : Script) (w : Witness) : Type 0 where
 abbrev pub WitnessTextsTell : Type 0
 WitnessTextsTell =
     (t : Script) → IsScript t → HasNames t → (w v : Witness) → IsWitnessOf t w → IsWitnessOf t v → witness_text t w ≡ witness_text t v → w ≡ v
+
+-- the database of a structure has the tables of the schema's models, in their order
+abbrev pub BuiltStandInOrder : Type 0
+BuiltStandInOrder = (s : Schema) (st : Structure) → IsInOrder s (built s st)
