@@ -1,3 +1,4 @@
 pub mod Searches
 pub mod Tables
 pub mod Pushed
+pub mod Summed

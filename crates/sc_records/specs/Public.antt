@@ -4,3 +4,5 @@ pub use Rattle.sc_records.specs.Shape.{IsShape, dangling_in}
 pub use Rattle.sc_records.specs.Rows.{AreShaped, IsFirstWrong, AreAllThere, IsFirstDangling, slots_from}
 pub use Rattle.sc_records.specs.Room.{weight_of, record_count, total_weight, HasRoom}
 pub use Rattle.sc_records.specs.Inserted.{empty_of, with_row, IsAdmitted, IsRefused, Inserts}
+pub use Rattle.sc_records.specs.Kept.{AreGiven}
+pub use Rattle.sc_records.specs.Rising.{AreRising}

@@ -7,6 +7,8 @@ ghost use Rattle.std.specs.Option.{option_map};
 ghost use Rattle.sc_data.specs.Database.{records_of, slots_of, has_record};
 ghost use Rattle.sc_records.specs.Inserted.{Inserts, IsAdmitted, IsRefused, change_table, empty_of};
 ghost use Rattle.sc_records.specs.Inserted.{empty_table, next_of, with_record};
+ghost use Rattle.sc_records.specs.Kept.{AreGiven};
+ghost use Rattle.sc_records.specs.Rising.{AreRising};
 ghost use Rattle.sc_records.specs.Room.{HasRoom, most_records, most_weight, record_count};
 ghost use Rattle.sc_records.specs.Room.{record_weight, row_weight, total_weight};
 ghost use Rattle.sc_records.specs.Views.{record_data, table_data, value_data};
@@ -18,7 +20,7 @@ use crate::rows::{first_dangling, first_wrong, push_slots};
 use crate::shape::Coming;
 use crate::table::{Table, record_in};
 use crate::value::Value;
-use crate::weights::without_row;
+use crate::weights::{count_in, weight_in, without_row};
 use sc_schema::{FieldNo, ModelInfo, ModelNo, Schema};
 use sqlite_items::Items;
 use std::alloc::{AllocError, Global};
@@ -132,7 +134,7 @@ fn place_of(tables: &[Table], m: ModelNo) -> Option<usize>
 
 impl Database {
     /// The id that the next record of the model gets.
-    fn next(&self, m: ModelNo) -> u64
+    pub fn next(&self, m: ModelNo) -> u64
         ensures { result ≡ next_of self.now m }
     {
         match table_in(self.tables.as_slice(), m) {
@@ -224,6 +226,24 @@ impl Database {
             tables,
             count: 0,
             weight: 0,
+        })
+    }
+
+    /// The database of these tables, in each of which the ids of the records rise and are below the
+    /// next id. It may hold more than one that records are inserted into.
+    pub fn of_tables(tables: Vec<Table>) -> Result<Database, AllocError>
+        requires rising { AreRising (map table_data tables.items) }
+        requires given { AreGiven (map table_data tables.items) }
+        ensures { IfOk result (λ d. d ≡ map table_data tables.items) }
+    {
+        let all = tables.as_slice();
+        let (Some(count), Some(weight)) = (count_in(all), weight_in(all)) else {
+            return Err(AllocError);
+        };
+        Ok(Database {
+            tables,
+            count,
+            weight,
         })
     }
 

@@ -26,4 +26,5 @@ mod weights;
 pub use data_err::{DataErr, Limit};
 pub use database::Database;
 pub use record::{Record, Slot};
+pub use table::Table;
 pub use value::Value;

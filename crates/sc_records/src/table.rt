@@ -12,10 +12,10 @@ use std::alloc::AllocError;
 
 /// The records of a model by rising id, and an id above all that were given so far.
 #[derive(Drop)]
-pub(crate) struct Table {
-    pub(crate) model: ModelNo,
-    pub(crate) next: u64,
-    pub(crate) records: Vec<Record>,
+pub struct Table {
+    pub model: ModelNo,
+    pub next: u64,
+    pub records: Vec<Record>,
 }
 
 /// The record with the id among records by rising id.

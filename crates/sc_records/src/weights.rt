@@ -1,9 +1,12 @@
 //! How much values weigh.
 
-ghost use Rattle.std.specs.Prelude.{◌≡◌, ◌+◌, ◌<◌, map, MatchOption};
+ghost use Rattle.std.specs.Prelude.{◌≡◌, ◌+◌, ◌<◌, length, map, IfSome, MatchOption};
+ghost use Rattle.std.specs.List.{sum_by};
 ghost use Rattle.sc_records.specs.Room.{row_weight, weight_of};
 ghost use Rattle.sc_records.specs.Views.{value_data};
 
+use crate::record::{Record, Slot};
+use crate::table::Table;
 use crate::value::Value;
 
 /// What is left of a number without this one.
@@ -55,4 +58,63 @@ pub(crate) fn without_row(left: u64, row: &[Value]) -> Option<u64>
         Some(left) => without_row(left, row),
         None => None,
     }
+}
+
+/// What is left of a number without the weights of slots, or None where they weigh more.
+fn without_slots(left: u64, slots: &[Slot]) -> Option<u64>
+    ensures { IfSome result (λ rest. rest
+        + sum_by (λ slot. weight_of (value_data slot.value)) slots.now ≡ left) }
+{
+    let mut left = left;
+    for slot in slots {
+        left = without_value(left, &slot.value)?;
+    }
+    Some(left)
+}
+
+/// What is left of a number without the weights of records, or None where they weigh more.
+fn without_records(left: u64, records: &[Record]) -> Option<u64>
+    ensures { IfSome result (λ rest. rest
+        + sum_by (λ r. sum_by (λ slot. weight_of (value_data slot.value)) r.slots) records.now
+        ≡ left) }
+{
+    let mut left = left;
+    for made in records {
+        left = without_slots(left, made.slots.as_slice())?;
+    }
+    Some(left)
+}
+
+/// What is left of a number without the weights of tables, or None where they weigh more.
+fn without_tables(left: u64, tables: &[Table]) -> Option<u64>
+    ensures { IfSome result (λ rest. rest
+        + sum_by (λ t. sum_by (λ r. sum_by (λ slot. weight_of (value_data slot.value)) r.slots)
+        t.records.items) tables.now ≡ left) }
+{
+    let mut left = left;
+    for table in tables {
+        left = without_records(left, table.records.as_slice())?;
+    }
+    Some(left)
+}
+
+/// How much tables weigh, or None where that is more than a number has.
+pub(crate) fn weight_in(tables: &[Table]) -> Option<u64>
+    ensures { IfSome result (λ weight. weight
+        ≡ sum_by (λ t. sum_by (λ r. sum_by (λ slot. weight_of (value_data slot.value)) r.slots)
+        t.records.items) tables.now) }
+{
+    let left = without_tables(u64::MAX, tables)?;
+    Some(u64::MAX - left)
+}
+
+/// How many records tables have, or None where there are more than a number has.
+pub(crate) fn count_in(tables: &[Table]) -> Option<usize>
+    ensures { IfSome result (λ n. n ≡ sum_by (λ t. length t.records.items) tables.now) }
+{
+    let mut count: usize = 0;
+    for table in tables {
+        count = count.checked_add(table.records.len())?;
+    }
+    Some(count)
 }

@@ -50,7 +50,7 @@ numbered-rise n (f ∷ fields) is =
       numbered-rise (n + 1) fields is.1,
     )
 
-abbrev HasFields : ModelInfo → Type 0
+abbrev pub HasFields : ModelInfo → Type 0
 HasFields m = IsDistinct nat_eq (field_numbers m.fields)
 
 module _ (t : Script) (is : IsScript t) where
@@ -127,7 +127,7 @@ module _ (t : Script) (is : IsScript t) where
   all-behind : AreBehind 0 t.commands
   all-behind j c e = let same : 0 + j ≡ j = omega arith in ap (command_at t) same ∙ e
 
-  start-models : IsDistinct nat_eq (model_numbers t.start.models)
+  pub start-models : IsDistinct nat_eq (model_numbers t.start.models)
   start-models =
       let proper = is.proper 0 (omega arith) in
       let later = created-rise t.commands 0 all-behind in
@@ -136,7 +136,7 @@ module _ (t : Script) (is : IsScript t) where
       (append-distinct (model_numbers (schema_at t 0).models) (model_numbers (created t.commands)) (schema_at t 0).next_model proper.models.distinct
       (rises-distinct (model_numbers (created t.commands)) later.1) proper.models.below later.0))
 
-  start-fields : AllByRecursion HasFields t.start.models
+  pub start-fields : AllByRecursion HasFields t.start.models
   start-fields =
       let proper = is.proper 0 (omega arith) in
       subst (λ (s : Schema). AllByRecursion HasFields s.models) (sym is.start)

@@ -1,7 +1,7 @@
 -- The printed text of a start database of a script, and of a witness.
-use Rattle.std.specs.Prelude.{ℕ, suc, true, false, ◌==◌, List, [], ◌∷◌, ◌++◌, Option, None, Some, codes, position}
-use Rattle.std.specs.Fmt.{decimal, signed_decimal}
-use Rattle.std.specs.List.{concat, flat_map, join_by, find, list_any}
+use Rattle.std.specs.Prelude.{ℕ, suc, ◌==◌, List, [], ◌∷◌, ◌++◌, Option, None, Some, codes, position}
+use Rattle.std.specs.Fmt.{decimal}
+use Rattle.std.specs.List.{concat, flat_map, find, list_any}
 use Rattle.std.specs.Option.{option_map_or}
 use Rattle.sc_schema.specs.declared.rights.Right.{Right}
 use Rattle.sc_schema.specs.declared.rights.Right.TheVariants.{Read, Write, Create, Delete}
@@ -12,26 +12,10 @@ use Rattle.sc_schema.specs.Commands.{Command, create_model, delete_model, add_st
 use Rattle.sc_schema.specs.Script.{Script, schema_at, created_by}
 use Rattle.sc_data.specs.declared.principals.Principal.{Principal}
 use Rattle.sc_data.specs.declared.principals.Principal.TheVariants.{Static, Rec}
-use Rattle.sc_data.specs.Values.{Value, Flag, Num, Str, Id, Ids, Nothing, Just}
-use Rattle.sc_data.specs.Database.{Slot, Record, Table, Database, table_of, records_of}
+use Rattle.sc_data.specs.Database.{Database}
 use Rattle.sc_eval.specs.declared.cells.Cell.{Cell}
-use Rattle.sc_print.specs.Marks.{quoted}
+use Rattle.sc_data_text.specs.Texts.{id_text, table_text}
 use Rattle.sc_witness.specs.Witness.{Witness}
-
--- ---- values
-
-abbrev pub id_text : ℕ → List ℕ
-id_text id = codes "@" ++ decimal id
-
-abbrev pub value_text : Value → List ℕ
-value_text (Flag true) = codes "true"
-value_text (Flag false) = codes "false"
-value_text (Num n) = signed_decimal n
-value_text (Str bytes) = quoted bytes
-value_text (Id id) = id_text id
-value_text (Ids ids) = concat (codes "[" ∷ join_by id_text (codes ", ") ids ∷ codes "]" ∷ [])
-value_text Nothing = codes "none"
-value_text (Just v) = concat (codes "some(" ∷ value_text v ∷ codes ")" ∷ [])
 
 -- ---- names
 
@@ -54,6 +38,12 @@ abbrev pub marked : List ℕ → Option ℕ → List ℕ
 marked name None = name
 marked name (Some before) = concat (name ∷ codes "@" ∷ decimal (suc before) ∷ [])
 
+abbrev pub right_text : Right → List ℕ
+right_text Read = codes "read"
+right_text Write = codes "write"
+right_text Create = codes "create"
+right_text Delete = codes "delete"
+
 module _ (t : Script) where
   abbrev pub model_text : ℕ → List ℕ
   model_text m =
@@ -70,30 +60,12 @@ module _ (t : Script) where
   abbrev pub field_text : ℕ → ℕ → ℕ → List ℕ
   field_text k m f = option_map_or (λ (info : FieldInfo). info.name) (field_of (schema_at t k) m f) []
 
-  -- ---- databases: models, records and fields in the order of the schema, each table with its next id
-
-  abbrev pub slot_text : Record → FieldInfo → List ℕ
-  slot_text r f =
-      concat (f.name ∷ codes ": " ∷ value_text (option_map_or (λ (slot : Slot). slot.value) (find (λ (slot : Slot). slot.field == f.number) r.slots) Nothing) ∷ [])
-
-  abbrev pub record_text : ModelInfo → Record → List ℕ
-  record_text m r = concat (codes "  " ∷ id_text r.id ∷ codes " {" ∷ join_by (slot_text r) (codes ", ") m.fields ∷ codes "}\n" ∷ [])
-
-  abbrev pub table_text : Database → ModelInfo → List ℕ
-  table_text d m =
-      concat (model_text m.number ∷ codes " " ∷ id_text (option_map_or (λ (table : Table). table.next) (table_of d m.number) 1) ∷ codes " {\n"
-      ∷ flat_map (record_text m) (records_of d m.number) ∷ codes "}\n" ∷ [])
+  -- ---- databases: each table under the marked name of its model
 
   abbrev pub database_text : Database → List ℕ
-  database_text d = flat_map (table_text d) t.start.models
+  database_text d = flat_map (λ (m : ModelInfo). table_text (model_text m.number) d m) t.start.models
 
   -- ---- witnesses, line by line
-
-  abbrev pub right_text : Right → List ℕ
-  right_text Read = codes "read"
-  right_text Write = codes "write"
-  right_text Create = codes "create"
-  right_text Delete = codes "delete"
 
   -- what a right is on, as it is named after k commands
   abbrev pub target_text : ℕ → Target → List ℕ
@@ -112,10 +84,20 @@ module _ (t : Script) where
   touched_line k (Some cell) =
       concat (codes "touched " ∷ record_name cell.model cell.id ∷ codes " " ∷ field_text k cell.model cell.field ∷ codes "\n" ∷ [])
 
+  -- a right on a target, at a command
+  abbrev pub access_text : ℕ → Target → Right → List ℕ
+  access_text k target right = concat (codes "command " ∷ decimal k ∷ codes " " ∷ target_text k target ∷ codes " right " ∷ right_text right ∷ [])
+
+  abbrev pub leak_line : Witness → List ℕ
+  leak_line w = concat (codes "leak " ∷ access_text w.command w.target w.right ∷ codes "\n" ∷ [])
+
+  abbrev pub row_line : Witness → List ℕ
+  row_line w = concat (codes "row " ∷ record_name (model_of_target w.target) w.row ∷ codes "\n" ∷ [])
+
+  abbrev pub principal_line : Principal → List ℕ
+  principal_line who = concat (codes "principal " ∷ principal_text who ∷ codes "\n" ∷ [])
+
   abbrev pub witness_text : Witness → List ℕ
   witness_text w =
-      concat (codes "leak command " ∷ decimal w.command ∷ codes " " ∷ target_text w.command w.target ∷ codes " right " ∷ right_text w.right ∷ codes "\n"
-      ∷ codes "row " ∷ record_name (model_of_target w.target) w.row ∷ codes "\n"
-      ∷ codes "principal " ∷ principal_text w.who ∷ codes "\n"
-      ∷ touched_line w.command w.cell
+      concat (leak_line w ∷ row_line w ∷ principal_line w.who ∷ touched_line w.command w.cell
       ∷ codes "database\n" ∷ database_text w.base ∷ codes "end\n" ∷ [])

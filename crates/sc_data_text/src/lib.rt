@@ -1,0 +1,23 @@
+//! The texts of databases.
+//!
+//! | module | holds |
+//! |---|---|
+//! | `values` | the texts of ids and values |
+//! | `tables` | the texts of records and tables |
+//! | `databases` | `print_database` |
+//! | `laws` | a law: the text tells the database |
+//!
+//! `specs/Texts.antt` says what each text is.
+#![tactic(auto)]
+
+mod databases;
+mod laws;
+mod tables;
+#[cfg(test)]
+mod tests;
+mod values;
+
+pub use databases::print_database;
+pub use laws::texts_tell_databases;
+pub use tables::write_table;
+pub use values::{write_decimal, write_id};

@@ -1,0 +1,92 @@
+//! What no clause says: that the call succeeds where there is memory, and a worked text.
+
+ghost use Rattle.std.specs.Prelude.{◌≡◌, IfOk, length};
+
+use crate::print_database;
+use sc_ast::{Name, Txt};
+use sc_records::{Database, Value};
+use sc_schema::{FieldInfo, ModelInfo, Schema, TBase, TPolicy, TTy};
+use sqlite_items::{Boxed, Items};
+use std::alloc::Global;
+use std::rc::Rc;
+use std::test::Fail;
+
+fn name(alloc: Global, bytes: &[u8]) -> Result<Name, Fail> {
+    Ok(Name::make(Vec::from_slice(alloc, bytes)?).ok_or("no name")?)
+}
+
+fn text(alloc: Global, bytes: &[u8]) -> Result<Value, Fail> {
+    let text = Txt::make(Vec::from_slice(alloc, bytes)?).ok_or("no text")?;
+    Ok(Value::Str(text))
+}
+
+fn field(alloc: Global, number: u32, word: &[u8], ty: TTy) -> Result<FieldInfo, Fail> {
+    Ok(FieldInfo {
+        number,
+        name: name(alloc, word)?,
+        ty,
+        read: Rc::new(alloc, TPolicy::Nobody)?,
+        write: Rc::new(alloc, TPolicy::Nobody)?,
+    })
+}
+
+/// Users with an email, friends and perhaps an age.
+fn users(alloc: Global) -> Result<ModelInfo, Fail>
+    ensures { IfOk result (λ info. length info.fields ≡ 3) }
+{
+    let mut fields = Items::new(alloc);
+    fields.push(field(alloc, 0, b"email", TTy::Plain(TBase::Text))?)?;
+    fields.push(field(alloc, 1, b"friends", TTy::Set(0))?)?;
+    fields.push(field(alloc, 2, b"age", TTy::Opt(TBase::Int))?)?;
+    Ok(ModelInfo {
+        number: 0,
+        name: name(alloc, b"User")?,
+        principal: true,
+        create: Rc::new(alloc, TPolicy::Nobody)?,
+        delete: Rc::new(alloc, TPolicy::Nobody)?,
+        fields,
+    })
+}
+
+fn schema_of_users(alloc: Global) -> Result<Schema, Fail> {
+    let mut models = Items::new(alloc);
+    models.push(users(alloc)?)?;
+    Ok(Schema {
+        statics: Items::new(alloc),
+        models,
+        next_static: 0,
+        next_model: 1,
+        next_field: 3,
+        added: Items::new(alloc),
+    })
+}
+
+fn insert_two(alloc: Global, database: &mut Database) -> Result<(), Fail> {
+    let info = users(alloc)?;
+    let age = Value::Just(Boxed::new(alloc, Value::Num(-30))?);
+    let row = [
+        text(alloc, b"a@x\n\x01")?,
+        Value::Ids(Items::new(alloc)),
+        age,
+    ];
+    database.insert(alloc, &info, &row)?;
+    let both: &[u64] = &[1, 2];
+    let friends = Value::Ids(Items::from_slice(alloc, both)?);
+    let row = [text(alloc, b"b")?, friends, Value::Nothing];
+    database.insert(alloc, &info, &row)?;
+    Ok(())
+}
+
+#[test]
+fn users_are_printed(rt: HostRuntime) -> Result<(), Fail> {
+    let alloc = rt.alloc();
+    let s = schema_of_users(alloc)?;
+    let mut database = Database::empty(alloc, &s)?;
+    insert_two(alloc, &mut database)?;
+    let printed = print_database(alloc, &database, &s)?;
+    let wanted: &[u8] = b"User @3 {\n\
+        \x20 @1 {email: \"a@x\\n\\x01\", friends: [], age: some(-30)}\n\
+        \x20 @2 {email: \"b\", friends: [@1, @2], age: none}\n}\n";
+    assert_eq!(rt; printed.as_slice(), wanted);
+    Ok(())
+}

@@ -1,0 +1,4 @@
+pub mod InOrder
+pub mod Marks
+pub mod Numbered
+pub mod WitnessCuts
