@@ -4,3 +4,7 @@ pub use Rattle.sc_records.specs.Shape.{IsShape, dangling_in}
 pub use Rattle.sc_records.specs.Rows.{AreShaped, IsFirstWrong, AreAllThere, IsFirstDangling, slots_from}
 pub use Rattle.sc_records.specs.Room.{weight_of, record_count, total_weight, HasRoom}
 pub use Rattle.sc_records.specs.Inserted.{empty_of, with_row, IsAdmitted, IsRefused, Inserts}
+pub use Rattle.sc_records.specs.Changed.{with_field, has_field, HasRoomFor, IsFitting, IsUnfit, Sets}
+pub use Rattle.sc_records.specs.Removed.{first_reference, without_record, IsHeld, Removes}
+pub use Rattle.sc_records.specs.Principals.{is_principal_of}
+pub use Rattle.sc_records.specs.Keeping.{ChangesKeep, DatabasesStay, RecordsHaveFields}
