@@ -125,11 +125,11 @@ kept-changed count weight new d m id f v kept is =
     let same = tables-changed m (with_value_in id f v) d in
     record {
       rising = subst AreRising (sym same)
-        (all-changed (λ (t : Table). IsStrictlyIncreasing (ids_by t.records)) (model_is m) (with_value_in id f v)
-        (λ t up. subst IsStrictlyIncreasing (sym (ids-changed id f v t.records)) up) d kept.rising);
+          (all-changed (λ (t : Table). IsStrictlyIncreasing (ids_by t.records)) (model_is m) (with_value_in id f v)
+          (λ t up. subst IsStrictlyIncreasing (sym (ids-changed id f v t.records)) up) d kept.rising);
       given = subst AreGiven (sym same)
-        (all-changed (λ (t : Table). AllByRecursion (λ (r : Record). r.id < t.next) t.records) (model_is m) (with_value_in id f v)
-        (λ t given. all-changed (λ (r : Record). r.id < t.next) (id_is id) (with_value f v) (λ r below. below) t.records given) d kept.given);
+          (all-changed (λ (t : Table). AllByRecursion (λ (r : Record). r.id < t.next) t.records) (model_is m) (with_value_in id f v)
+          (λ t given. all-changed (λ (r : Record). r.id < t.next) (id_is id) (with_value f v) (λ r below. below) t.records given) d kept.given);
       counted = kept.counted ∙ sym (count-changed d);
       weighed = is;
     }
@@ -171,11 +171,11 @@ kept-without count weight d m id at kept =
     let lengths = length-without (id_is id) at.table.records at.row at.row_is in
     record {
       rising = subst AreRising (sym same)
-        (all-changed (λ (t : Table). IsStrictlyIncreasing (ids_by t.records)) (model_is m) (without_record_in id)
-        (λ t up. IsStrictlyIncreasing-from_sorted (ids_by (without_first (id_is id) t.records)) (rising-without id t.records (sorted_from_strictly_increasing (ids_by t.records) up))) d kept.rising);
+          (all-changed (λ (t : Table). IsStrictlyIncreasing (ids_by t.records)) (model_is m) (without_record_in id)
+          (λ t up. IsStrictlyIncreasing-from_sorted (ids_by (without_first (id_is id) t.records)) (rising-without id t.records (sorted_from_strictly_increasing (ids_by t.records) up))) d kept.rising);
       given = subst AreGiven (sym same)
-        (all-changed (λ (t : Table). AllByRecursion (λ (r : Record). r.id < t.next) t.records) (model_is m) (without_record_in id)
-        (λ t given. all-without (λ (r : Record). r.id < t.next) (id_is id) t.records given) d kept.given);
+          (all-changed (λ (t : Table). AllByRecursion (λ (r : Record). r.id < t.next) t.records) (model_is m) (without_record_in id)
+          (λ t given. all-without (λ (r : Record). r.id < t.next) (id_is id) t.records given) d kept.given);
       counted = subst (λ e. count ≡ record_count e) (sym same) (omega (arith, kept.counted, counts, lengths));
       weighed = subst (λ e. weight ≡ total_weight e) (sym same) (omega (arith, kept.weighed, tables, rows));
     }

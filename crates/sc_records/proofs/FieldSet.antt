@@ -78,9 +78,9 @@ module _ (s : Schema) (proper : IsProper s) (d : Database) (is : IsDatabase s d)
     set-keeps = record {
       apart = subst (IsDistinct nat_eq) (sym (models-same m g keeps d)) is.apart;
       tables = all-zipped (HasTable d) (λ (i : ModelInfo). i.number ≡ m → i ≡ info) (HasTable e)
-        (λ i has only. table-stays m g keeps d i (λ t other at of. table-carried d e more i t of)
-        (λ t here at of. let it : i ≡ info = only here in subst (λ (u : ModelInfo). IsTableOf e u (g t)) (sym it) (table-set t (subst (λ (u : ModelInfo). IsTableOf d u t) it of))) has)
-        s.models is.tables (only-model m info s.models proper.models.distinct model);
+          (λ i has only. table-stays m g keeps d i (λ t other at of. table-carried d e more i t of)
+          (λ t here at of. let it : i ≡ info = only here in subst (λ (u : ModelInfo). IsTableOf e u (g t)) (sym it) (table-set t (subst (λ (u : ModelInfo). IsTableOf d u t) it of))) has)
+          s.models is.tables (only-model m info s.models proper.models.distinct model);
     }
 
 -- ---- the fields of a record

@@ -72,9 +72,11 @@ record-in s d is n i info model at =
     let number : info.number ≡ n = eqb-true _ _ (found-passes (λ (u : ModelInfo). u.number == n) s.models info model) in
     let here : table_of d n ≡ Some has.0 = ap (table_of d) (sym number) ∙ has.1 in
     let same : has.0 ≡ at.table = cc (here, at.table_is) in
-    let table = subst (λ (t : Table). AllByRecursion (IsRecordIn d info t.next) t.records × (t.next ≤ last_id + 1)) same (has.2.records, has.2.last) in
-    (found-among (IsRecordIn d info at.table.next) (id_is i) at.table.records at.row table.0 at.row_is, table.1,
-    eqb-true _ _ (found-passes (id_is i) at.table.records at.row at.row_is))
+    let table = subst (λ (t : Table). AllByRecursion (IsRecordIn d info t.next) t.records × (t.next ≤ last_id + 1)) same (has.2.records, has.2.last) in (
+      found-among (IsRecordIn d info at.table.next) (id_is i) at.table.records at.row table.0 at.row_is,
+      table.1,
+      eqb-true _ _ (found-passes (id_is i) at.table.records at.row at.row_is),
+    )
 
 pub id-real : (s : Schema) (d : Database) → IsDatabase s d → (n i : ℕ) → HasModel s n → has_record d n i ≡ true → IsId i
 id-real s d is n i has there =

@@ -150,18 +150,18 @@ module _ (s : Schema) (proper : IsProper s) (d : Database) (is : IsDatabase s d)
           last = omega (arith, next, unspent);
           rising = rising-push t.records r of.rising (all-below d info t.next (next_of d m) next t.records of.records);
           records = grown e info t.next t.records r (records-carried d e more info t.next t.records of.records)
-            (record {
-              first = new-id.0;
-              given = omega (arith, next);
-              slots = slots-row s m (is_there_or_next d m) e real info.fields row typed-fields ok.shaped ok.there;
-            });
+              (record {
+                first = new-id.0;
+                given = omega (arith, next);
+                slots = slots-row s m (is_there_or_next d m) e real info.fields row typed-fields ok.shaped ok.there;
+              });
         }
 
     pub insert-keeps : IsDatabase s e
     insert-keeps = record {
       apart = subst (IsDistinct nat_eq) (sym (models-same m g keeps d)) is.apart;
       tables = all-zipped (HasTable d) (λ (i : ModelInfo). i.number ≡ m → i ≡ info) (HasTable e)
-        (λ i has only. table-stays m g keeps d i (λ t other at of. table-carried d e more i t of)
-        (λ t here at of. let it : i ≡ info = only here in subst (λ (u : ModelInfo). IsTableOf e u (g t)) (sym it) (table-grown t at (subst (λ (u : ModelInfo). IsTableOf d u t) it of))) has)
-        s.models is.tables (only-model m info s.models proper.models.distinct model);
+          (λ i has only. table-stays m g keeps d i (λ t other at of. table-carried d e more i t of)
+          (λ t here at of. let it : i ≡ info = only here in subst (λ (u : ModelInfo). IsTableOf e u (g t)) (sym it) (table-grown t at (subst (λ (u : ModelInfo). IsTableOf d u t) it of))) has)
+          s.models is.tables (only-model m info s.models proper.models.distinct model);
     }

@@ -113,9 +113,10 @@ module _ (d e : Database) (m id : ℕ) (others : (n i : ℕ) → ((n == m) && (i
       let here : value_in (slot ∷ slots) f.number ≡ slot.value
       = ap (λ b. option_map_or (λ (u : Slot). u.value) (cond b (Some slot) (find (field_is f.number) slots)) Nothing) (ap (λ n. n == f.number) all.0.0 ∙ same-number f.number) in
       let one : (is_of_model m f.ty && list_any (λ i. i == id) (ids_in slot.value)) ≡ false
-      = ap (λ v. is_of_model m f.ty && list_any (λ i. i == id) (ids_in v)) (sym here) ∙ none.0 in
-      ((all.0.0, all.0.1, intact-carried d e f.ty slot.value (carries-type f.ty (ids_in slot.value) one) all.0.2),
-      slots-left fields slots apart.1 all.1 (later fields apart.0 none.1))
+      = ap (λ v. is_of_model m f.ty && list_any (λ i. i == id) (ids_in v)) (sym here) ∙ none.0 in (
+        (all.0.0, all.0.1, intact-carried d e f.ty slot.value (carries-type f.ty (ids_in slot.value) one) all.0.2),
+        slots-left fields slots apart.1 all.1 (later fields apart.0 none.1),
+      )
     where
       same-number : (n : ℕ) → (n == n) ≡ true
       same-number n = eq-eqb n n refl
@@ -186,7 +187,7 @@ module _ (s : Schema) (proper : IsProper s) (d : Database) (is : IsDatabase s d)
         last = of.last;
         rising = of.rising;
         records = all-given (λ (r : Record). ((info.number == m) && (r.id == id)) ≡ false) (IsRecordIn e info t.next) t.records
-          (all-from (λ (r : Record). ((info.number == m) && (r.id == id)) ≡ false) (λ r. ap (λ b. b && (r.id == id)) other) t.records) (left t at of);
+            (all-from (λ (r : Record). ((info.number == m) && (r.id == id)) ≡ false) (λ r. ap (λ b. b && (r.id == id)) other) t.records) (left t at of);
       })
       (λ t here at of.
       let up = sorted_from_strictly_increasing (ids_by t.records) of.rising in
@@ -195,8 +196,8 @@ module _ (s : Schema) (proper : IsProper s) (d : Database) (is : IsDatabase s d)
         last = of.last;
         rising = IsStrictlyIncreasing-from_sorted (ids_by (without_first (id_is id) t.records)) (rising-without id t.records up);
         records = all-given (λ (r : Record). ((info.number == m) && (r.id == id)) ≡ false) (IsRecordIn e info t.next) (without_first (id_is id) t.records)
-          (differs here (without_first (id_is id) t.records) (left-differ id t.records up))
-          (all-left (λ (r : Record). ((info.number == m) && (r.id == id)) ≡ false → IsRecordIn e info t.next r) (id_is id) t.records (left t (ap (table_of d) here ∙ at) of));
+            (differs here (without_first (id_is id) t.records) (left-differ id t.records up))
+            (all-left (λ (r : Record). ((info.number == m) && (r.id == id)) ≡ false → IsRecordIn e info t.next r) (id_is id) t.records (left t (ap (table_of d) here ∙ at) of));
       }) has
     where
       left : (t : Table) → table_of d info.number ≡ Some t → IsTableOf d info t

@@ -61,11 +61,13 @@ or-later a b = ⊎_elim (λ e. inr (omega arith)) (λ o. ⊎_elim (λ l. inl l) 
 first_by : {X : Type 0} (key : X → ℕ) (id : ℕ) (xs : List X) (i : ℕ) → IsStrictlyIncreasing (map key xs) → i < length xs
     → IsBinarySearchResult (λ y. nat_cmp (key y) id) xs (Ok i) → IsFirstAt (λ x. key x == id) xs i
 first_by {X} key id xs i up below h =
-    let it : (d : X) → (key (get_or xs i d) == id) ≡ true = λ d. unsigned_ties (key (get_or xs i d)) id ∙ ap is_eq (h d) in
-    (below, it,
-    (λ k d less. ne_eqb (key (get_or xs k d)) id (λ e.
-    let there : key (get_or xs i d) ≡ id = eqb-true _ _ (it d) in
-    omega (arith, rises key xs up k i d less below))))
+    let it : (d : X) → (key (get_or xs i d) == id) ≡ true = λ d. unsigned_ties (key (get_or xs i d)) id ∙ ap is_eq (h d) in (
+      below,
+      it,
+      (λ k d less. ne_eqb (key (get_or xs k d)) id (λ e.
+          let there : key (get_or xs i d) ≡ id = eqb-true _ _ (it d) in
+          omega (arith, rises key xs up k i d less below))),
+    )
 
 pub searched_by : {X : Type 0} (key : X → ℕ) (id : ℕ) (xs : List X) (r : Result ℕ ℕ) → IsStrictlyIncreasing (map key xs) → IsSearchInRange r (length xs)
     → IsBinarySearchResult (λ y. nat_cmp (key y) id) xs r

@@ -302,10 +302,7 @@ impl Database {
         if !has_shape(v, field.ty) {
             return Err(DataErr::WrongShape { field: number });
         }
-        let coming = Coming {
-            model: m,
-            id,
-        };
+        let coming = Coming { model: m, id };
         match dangling_in(self, coming, field.ty, v) {
             Some(id) => return Err(DataErr::Dangling { field: number, id }),
             None => {}

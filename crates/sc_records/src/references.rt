@@ -59,12 +59,7 @@ fn names(m: ModelNo, id: u64, from: &Record, field: &FieldInfo) -> bool
 }
 
 /// The first field of the record that names the record of model `m` with the id.
-fn naming<'f>(
-    m: ModelNo,
-    id: u64,
-    from: &Record,
-    fields: &'f [FieldInfo],
-) -> Option<&'f FieldInfo>
+fn naming<'f>(m: ModelNo, id: u64, from: &Record, fields: &'f [FieldInfo]) -> Option<&'f FieldInfo>
     ensures { option_copied result
         ≡ find (λ f. names m id (record_data from.now) (field_info_of f)) fields.now }
 {

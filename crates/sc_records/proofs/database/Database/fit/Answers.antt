@@ -18,9 +18,12 @@ returns-then-not-has_shape-clause-unfit c =
 
 pub returns-in-Some-dangling_in-clause-unfit : goal.returns-in-Some-dangling_in-clause-unfit
 returns-in-Some-dangling_in-clause-unfit c =
-    let found = value-found c.args.self.now c.args.m c.args.id c.args.field.now.number (value_data c.in-Some.old.now) c.in-Some.ensures in
-    (found.has, c.if-not-has_shape.ensures.0 refl,
-    sym (there-same c.args.self.now c.args.m c.args.id found.there c.args.field.now.ty (value_data c.args.v.now)) ∙ sym c.in-Some-dangling_in.ensures, refl)
+    let found = value-found c.args.self.now c.args.m c.args.id c.args.field.now.number (value_data c.in-Some.old.now) c.in-Some.ensures in (
+      found.has,
+      c.if-not-has_shape.ensures.0 refl,
+      sym (there-same c.args.self.now c.args.m c.args.id found.there c.args.field.now.ty (value_data c.args.v.now)) ∙ sym c.in-Some-dangling_in.ensures,
+      refl,
+    )
 
 pub reweighed-requires : goal.reweighed-requires
 reweighed-requires c =
@@ -40,7 +43,9 @@ returns-in-Some-reweighed-clause-fits c =
 
 pub returns-in-None-reweighed-clause-unfit : goal.returns-in-None-reweighed-clause-unfit
 returns-in-None-reweighed-clause-unfit c =
-    let found = value-found c.args.self.now c.args.m c.args.id c.args.field.now.number (value_data c.in-Some.old.now) c.in-Some.ensures in
-    (found.has, c.if-not-has_shape.ensures.0 refl,
-    sym (there-same c.args.self.now c.args.m c.args.id found.there c.args.field.now.ty (value_data c.args.v.now)) ∙ sym c.in-None-dangling_in.ensures,
-    (λ room. c.in-None-reweighed.ensures (subst (λ (v : Value). HasRoomFor c.args.self.now v (value_data c.args.v.now)) found.field room)))
+    let found = value-found c.args.self.now c.args.m c.args.id c.args.field.now.number (value_data c.in-Some.old.now) c.in-Some.ensures in (
+      found.has,
+      c.if-not-has_shape.ensures.0 refl,
+      sym (there-same c.args.self.now c.args.m c.args.id found.there c.args.field.now.ty (value_data c.args.v.now)) ∙ sym c.in-None-dangling_in.ensures,
+      (λ room. c.in-None-reweighed.ensures (subst (λ (v : Value). HasRoomFor c.args.self.now v (value_data c.args.v.now)) found.field room)),
+    )
