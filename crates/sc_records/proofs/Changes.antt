@@ -1,7 +1,7 @@
 -- Databases with a changed field or without a record: what is kept, and what they weigh.
-use Rattle.std.proofs.Common.{◌≡◌, ℕ, zero, suc, ◌<◌, ◌≤◌, ◌+◌, Bool, true, false, List, [], ◌∷◌, refl, ap, sym, ◌∙◌, subst, cond, arith, length, map}
+use Rattle.std.proofs.Common.{◌≡◌, ℕ, ◌<◌, ◌≤◌, ◌+◌, Bool, true, false, List, [], ◌∷◌, refl, ap, sym, ◌∙◌, subst, arith, length}
 use Rattle.std.specs.Prelude.{Option, Some, None, ◌==◌, is_some, if◌then◌else◌}
-use Rattle.std.specs.List.{find, sum_by, list_any, AllByRecursion}
+use Rattle.std.specs.List.{find, sum_by, AllByRecursion}
 use Rattle.std.specs.List.Sorted.{IsStrictlyIncreasing, IsStrictlySortedBy}
 use Rattle.std.specs.Option.{option_map_or}
 use Rattle.std.specs.Ordering.{nat_cmp}
@@ -9,7 +9,7 @@ use Rattle.std.specs.declared.cmp.Ordering.TheVariants.{Less}
 use Rattle.std.proofs.lemmas.List.Sums.{sum_by-cons}
 use Rattle.std.proofs.lemmas.Map.Keys.{IsStrictlyIncreasing-from_sorted, sorted_from_strictly_increasing}
 use Rattle.sc_data.specs.Values.{Value, Nothing}
-use Rattle.sc_data.specs.Database.{Slot, Record, Table, Database, table_of, records_of, ids_of, has_record, slots_of, field_at}
+use Rattle.sc_data.specs.Database.{Slot, Record, Table, Database, table_of, records_of, has_record, slots_of, field_at}
 use Rattle.sc_records.specs.Changed.{change_first, with_slot_value, with_value, with_value_in, with_field}
 use Rattle.sc_records.specs.Removed.{without_first, without_record_in, without_record}
 use Rattle.sc_records.specs.Inserted.{change_table}

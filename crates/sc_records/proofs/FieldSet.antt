@@ -1,19 +1,16 @@
 -- A value in a field keeps a database a database.
-use Rattle.std.proofs.Common.{◌≡◌, ℕ, ◌<◌, ◌≤◌, ◌+◌, Bool, true, false, List, [], ◌∷◌, refl, ap, sym, ◌∙◌, subst, cond, arith, map}
-use Rattle.std.specs.Prelude.{Option, Some, None, ◌==◌, nat_eq, is_some, if◌then◌else◌}
-use Rattle.std.specs.List.{find, list_any, AllByRecursion, IsDistinct}
+use Rattle.std.proofs.Common.{◌≡◌, ℕ, Bool, true, false, List, [], ◌∷◌, refl, ap, sym, ◌∙◌, subst, cond}
+use Rattle.std.specs.Prelude.{Some, ◌==◌, nat_eq, is_some, if◌then◌else◌}
+use Rattle.std.specs.List.{find, list_any, IsDistinct}
 use Rattle.std.specs.List.Sorted.{IsStrictlyIncreasing}
-use Rattle.std.proofs.lemmas.Bool.{eqb-true}
 use Rattle.sc_schema.specs.Schema.{FieldInfo, ModelInfo, Schema, model_of, field_in}
 use Rattle.sc_schema.specs.Proper.{IsProper}
-use Rattle.sc_schema.specs.Typing.{HasModel, IsField, IsModel}
+use Rattle.sc_schema.specs.Typing.{IsField, IsModel}
 use Rattle.sc_data.specs.Values.{Value, IsValueOf}
-use Rattle.sc_data.specs.Database.{Slot, Record, Table, Database, table_of, has_record, IsIntact, AreSlots, IsRecordIn, IsTableOf, HasTable, IsDatabase}
+use Rattle.sc_data.specs.Database.{Slot, Record, Table, Database, has_record, IsIntact, AreSlots, IsRecordIn, IsTableOf, HasTable, IsDatabase}
 use Rattle.sc_records.specs.Changed.{change_first, with_slot_value, with_value, with_value_in, with_field, has_field, IsFitting}
-use Rattle.sc_records.specs.Inserted.{change_table}
-use Rattle.sc_records.specs.Rising.{ids_by}
-use Rattle.sc_records.proofs.Changes.{Located, located, field_is, id_is, ids-changed, slots-are}
-use Rattle.sc_records.proofs.Firsts.{all-changed, found-among, found-passes}
+use Rattle.sc_records.proofs.Changes.{located, field_is, id_is, ids-changed, slots-are}
+use Rattle.sc_records.proofs.Firsts.{all-changed, found-among}
 use Rattle.sc_records.proofs.Places.{row-there, slot-there}
 use Rattle.sc_records.proofs.Real.{AreReal, value-real, id-real, record-in}
 use Rattle.sc_records.proofs.Stays.{models-same, table-carried, records-carried, only-model, table-stays, all-zipped, has-carried}

@@ -1,6 +1,6 @@
 -- The first element that passes a test changed, or left out.
-use Rattle.std.proofs.Common.{◌≡◌, ℕ, zero, suc, ◌<◌, ◌≤◌, ◌+◌, Bool, true, false, List, [], ◌∷◌, ◌++◌, refl, ap, sym, ◌∙◌, subst, cond, arith, get_or, set, length, map, take, drop}
-use Rattle.std.specs.Prelude.{Option, Some, None, ◌==◌, position, remove, if◌then◌else◌}
+use Rattle.std.proofs.Common.{◌≡◌, ℕ, zero, suc, ◌≤◌, ◌+◌, Bool, true, false, List, [], ◌∷◌, refl, ap, sym, ◌∙◌, subst, cond, arith, get_or, set, length, map}
+use Rattle.std.specs.Prelude.{Some, None, position, remove, if◌then◌else◌}
 use Rattle.std.specs.List.{find, sum_by, AllByRecursion, position_or_len}
 use Rattle.std.proofs.Math.Dec.{ltb}
 use Rattle.std.proofs.lemmas.Bool.{ltb-false}

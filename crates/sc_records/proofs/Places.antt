@@ -11,16 +11,16 @@ use Rattle.sc_schema.specs.declared.schemas.ModelInfo as code_model
 use Rattle.sc_schema.specs.Schema.{FieldInfo}
 use Rattle.sc_schema.specs.SchemaViews.{field_info_of, model_info_of}
 use Rattle.sc_data.specs.Values.{Value, Nothing, ids_in}
-use Rattle.sc_data.specs.Database.{Slot, Record, Table, Database, records_of, slots_of, has_record, field_at}
+use Rattle.sc_data.specs.Database.{Slot, Record, Database, records_of, slots_of, has_record, field_at}
 use Rattle.sc_records.specs.declared.record.Record as code_record
 use Rattle.sc_records.specs.declared.references.Reference.{Reference}
 use Rattle.sc_records.specs.declared.table.Table as code_table
-use Rattle.sc_records.specs.Changed.{has_field, with_field}
+use Rattle.sc_records.specs.Changed.{has_field}
 use Rattle.sc_records.specs.Inserted.{is_there_or}
 use Rattle.sc_records.specs.Kept.{IsKept}
 use Rattle.sc_records.specs.Removed.{first_given, is_of_model, names, reference_from, without_record}
 use Rattle.sc_records.specs.Rising.{AreRising}
-use Rattle.sc_records.specs.Room.{weight_of, record_weight, record_count, total_weight}
+use Rattle.sc_records.specs.Room.{record_weight, record_count, total_weight}
 use Rattle.sc_records.specs.Shape.{dangling_in, model_named}
 use Rattle.sc_records.specs.Views.{record_data, table_data}
 use Rattle.sc_records.proofs.Changes.{Located, located, field_is, id_is, model_is, size, kept-without, record-found, row-within, some-of, value-is}

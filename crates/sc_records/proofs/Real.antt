@@ -1,6 +1,6 @@
 -- Values of a type's shape whose ids name records are values of the type.
-use Rattle.std.proofs.Common.{◌≡◌, ℕ, ◌<◌, ◌≤◌, ◌+◌, Bool, true, false, not, List, [], ◌∷◌, refl, ap, sym, ◌∙◌, subst, cond, arith, map, ⊎_elim, inl, inr}
-use Rattle.std.specs.Prelude.{Option, Some, None, ◌==◌, ◌⊎◌, is_some, option_and_then}
+use Rattle.std.proofs.Common.{◌≡◌, ℕ, ◌≤◌, ◌+◌, Bool, true, false, not, List, [], ◌∷◌, refl, ap, sym, ◌∙◌, subst, cond, arith, ⊎_elim, inl, inr}
+use Rattle.std.specs.Prelude.{Some, None, ◌==◌, option_and_then}
 use Rattle.std.specs.List.{find, AllByRecursion}
 use Rattle.std.proofs.lemmas.Bool.{eqb-true}
 use Rattle.sc_schema.specs.declared.types.TBase.{TBase}
@@ -10,7 +10,7 @@ use Rattle.sc_schema.specs.declared.types.TTy.TheVariants.{Plain, Set, Opt}
 use Rattle.sc_schema.specs.Schema.{ModelInfo, Schema, model_of}
 use Rattle.sc_schema.specs.Typing.{HasModel, IsType}
 use Rattle.sc_data.specs.Values.{Value, Nothing, Just, IsId, IsValueOf, IsBaseValueOf, ids_in, last_id}
-use Rattle.sc_data.specs.Database.{Record, Table, Database, table_of, has_record, AreThere, IsBaseIntact, IsIntact, IsRecordIn, HasTable, IsDatabase}
+use Rattle.sc_data.specs.Database.{Table, Database, table_of, has_record, AreThere, IsBaseIntact, IsIntact, IsRecordIn, HasTable, IsDatabase}
 use Rattle.sc_records.specs.Shape.{IsShape, IsBaseShape, There, dangling_in, base_model}
 use Rattle.sc_records.proofs.Changes.{Located, located, id_is, some-of}
 use Rattle.sc_records.proofs.Firsts.{found-among, found-passes}

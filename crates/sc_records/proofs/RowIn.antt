@@ -1,15 +1,15 @@
 -- A database without records, and one more record, which keeps a database a database.
-use Rattle.std.proofs.Common.{◌≡◌, ℕ, ◌<◌, ◌≤◌, ◌+◌, Bool, true, false, ◌||◌, ◌&&◌, List, [], ◌∷◌, ◌++◌, refl, ap, sym, ◌∙◌, subst, cond, arith, map}
-use Rattle.std.specs.Prelude.{Option, Some, None, ◌==◌, nat_eq, if◌then◌else◌}
-use Rattle.std.specs.List.{find, list_any, AllByRecursion, IsDistinct}
+use Rattle.std.proofs.Common.{◌≡◌, ℕ, ◌<◌, ◌+◌, Bool, true, false, ◌||◌, ◌&&◌, List, [], ◌∷◌, ◌++◌, refl, ap, sym, ◌∙◌, subst, cond, arith, map}
+use Rattle.std.specs.Prelude.{Some, ◌==◌, nat_eq}
+use Rattle.std.specs.List.{list_any, AllByRecursion, IsDistinct}
 use Rattle.std.specs.Option.{option_map_or}
 use Rattle.std.proofs.lemmas.Bool.{eqb-true, eq-eqb}
 use Rattle.sc_schema.specs.Schema.{FieldInfo, ModelInfo, Schema, model_of}
 use Rattle.sc_schema.specs.Proper.{IsProper}
 use Rattle.sc_schema.specs.Typing.{IsField, IsModel}
-use Rattle.sc_data.specs.Values.{Value, IsId, last_id}
-use Rattle.sc_data.specs.Database.{Slot, Record, Table, Database, table_of, has_record, AreSlots, IsRecordIn, IsTableOf, HasTable, IsDatabase}
-use Rattle.sc_records.specs.Inserted.{IsAdmitted, change_table, empty_of, empty_table, is_there_or_next, next_of, with_record, with_row}
+use Rattle.sc_data.specs.Values.{Value, IsId}
+use Rattle.sc_data.specs.Database.{Record, Table, Database, table_of, has_record, AreSlots, IsRecordIn, IsTableOf, HasTable, IsDatabase}
+use Rattle.sc_records.specs.Inserted.{IsAdmitted, empty_of, empty_table, is_there_or_next, next_of, with_record, with_row}
 use Rattle.sc_records.specs.Rows.{AreAllThere, AreShaped, slots_from}
 use Rattle.sc_records.specs.Shape.{There}
 use Rattle.sc_records.proofs.Firsts.{found-among}

@@ -1,8 +1,8 @@
 -- A record taken out, which no other record names, leaves a database a database.
-use Rattle.std.proofs.Common.{◌≡◌, ℕ, ◌<◌, ◌≤◌, ◌+◌, Bool, true, false, ◌||◌, ◌&&◌, List, [], ◌∷◌, refl, ap, sym, ◌∙◌, subst, cond, arith, map}
+use Rattle.std.proofs.Common.{◌≡◌, ℕ, Bool, true, false, ◌||◌, ◌&&◌, List, [], ◌∷◌, refl, ap, sym, ◌∙◌, subst, cond, arith, map}
 use Rattle.std.specs.Prelude.{Option, Some, None, ◌==◌, nat_eq, if◌then◌else◌}
 use Rattle.std.specs.List.{find, list_any, AllByRecursion, IsDistinct}
-use Rattle.std.specs.List.Sorted.{IsStrictlyIncreasing, IsStrictlySortedBy}
+use Rattle.std.specs.List.Sorted.{IsStrictlySortedBy}
 use Rattle.std.specs.Option.{option_map, option_map_or}
 use Rattle.std.specs.Ordering.{nat_cmp}
 use Rattle.std.specs.declared.cmp.Ordering.TheVariants.{Less}
@@ -18,7 +18,7 @@ use Rattle.sc_schema.specs.Proper.{IsProper, AreProperFields}
 use Rattle.sc_data.specs.Values.{Value, Nothing, ids_in}
 use Rattle.sc_data.specs.Database.{Slot, Record, Table, Database, table_of, records_of, has_record, AreSlots, IsRecordIn, IsTableOf, HasTable, IsDatabase}
 use Rattle.sc_records.specs.declared.references.Reference.{Reference}
-use Rattle.sc_records.specs.Removed.{first_given, first_reference, held, is_of_model, names, reference_from, without_first, without_record, without_record_in}
+use Rattle.sc_records.specs.Removed.{first_given, first_reference, is_of_model, names, reference_from, without_first, without_record, without_record_in}
 use Rattle.sc_records.specs.Rising.{ids_by}
 use Rattle.sc_records.proofs.Changes.{field_is, id_is, rising-without}
 use Rattle.sc_records.proofs.Stays.{Carries, CarriesBase, CarriesType, intact-carried, models-same, table-stays, has-carried}

@@ -1,6 +1,6 @@
 -- Changed tables in a database over a schema.
-use Rattle.std.proofs.Common.{◌≡◌, ℕ, zero, suc, ◌<◌, ◌≤◌, ◌+◌, Bool, true, false, ◌||◌, ◌&&◌, not, List, [], ◌∷◌, refl, ap, sym, ◌∙◌, subst, cond, arith, length, map}
-use Rattle.std.specs.Prelude.{Option, Some, None, ◌==◌, nat_eq, is_some, if◌then◌else◌}
+use Rattle.std.proofs.Common.{◌≡◌, ℕ, Bool, true, false, List, [], ◌∷◌, refl, ap, sym, ◌∙◌, subst, cond, map}
+use Rattle.std.specs.Prelude.{Option, Some, None, ◌==◌, nat_eq, if◌then◌else◌}
 use Rattle.std.specs.List.{find, list_any, AllByRecursion, IsDistinct}
 use Rattle.std.specs.Option.{option_map, option_map_or}
 use Rattle.std.proofs.lemmas.Bool.{eqb-true, eq-eqb, ne_eqb}
@@ -8,9 +8,9 @@ use Rattle.sc_schema.specs.declared.types.TBase.{TBase}
 use Rattle.sc_schema.specs.declared.types.TBase.TheVariants as base
 use Rattle.sc_schema.specs.declared.types.TTy.{TTy}
 use Rattle.sc_schema.specs.declared.types.TTy.TheVariants.{Plain, Set, Opt}
-use Rattle.sc_schema.specs.Schema.{FieldInfo, ModelInfo, Schema}
-use Rattle.sc_data.specs.Values.{Value, IsValueOf, ids_in}
-use Rattle.sc_data.specs.Database.{Slot, Record, Table, Database, table_of, records_of, ids_of, has_record, AreThere, IsBaseIntact, IsIntact, AreSlots, IsRecordIn, IsTableOf, HasTable, IsDatabase}
+use Rattle.sc_schema.specs.Schema.{FieldInfo, ModelInfo}
+use Rattle.sc_data.specs.Values.{Value, ids_in}
+use Rattle.sc_data.specs.Database.{Slot, Record, Table, Database, table_of, records_of, ids_of, has_record, AreThere, IsBaseIntact, IsIntact, AreSlots, IsRecordIn, IsTableOf, HasTable}
 use Rattle.sc_records.specs.Inserted.{change_table}
 
 cond-map : {A B : Type 0} (g : A → B) (b : Bool) (x : A) (o : Option A) → cond b (Some (g x)) (option_map g o) ≡ option_map g (cond b (Some x) o)

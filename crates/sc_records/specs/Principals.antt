@@ -1,5 +1,5 @@
 -- Principals of a schema that are there.
-use Rattle.std.specs.Prelude.{ℕ, Bool, ◌&&◌, is_some}
+use Rattle.std.specs.Prelude.{Bool, ◌&&◌, is_some}
 use Rattle.sc_schema.specs.Schema.{Schema, static_of, is_principal_model}
 use Rattle.sc_data.specs.declared.principals.Principal.{Principal}
 use Rattle.sc_data.specs.declared.principals.Principal.TheVariants.{Static, Rec}

@@ -1,5 +1,5 @@
 -- What comes of a record that is to be removed.
-use Rattle.std.specs.Prelude.{◌≡◌, ℕ, ◌==◌, ◌&&◌, Bool, true, false, List, [], ◌∷◌, Option, None, Some, is_some, Result, Ok, Err, if◌then◌else◌}
+use Rattle.std.specs.Prelude.{◌≡◌, ℕ, ◌==◌, ◌&&◌, Bool, true, false, List, [], ◌∷◌, Option, None, Some, Result, Ok, Err, if◌then◌else◌}
 use Rattle.std.specs.List.{find, list_any}
 use Rattle.std.specs.Option.{option_map, option_map_or}
 use Rattle.sc_schema.specs.declared.types.TTy.{TTy}
@@ -8,7 +8,6 @@ use Rattle.sc_data.specs.Values.{Value, Nothing, ids_in}
 use Rattle.sc_data.specs.Database.{Slot, Record, Table, Database, records_of, has_record}
 use Rattle.sc_records.specs.declared.data_err.DataErr.{DataErr}
 use Rattle.sc_records.specs.declared.data_err.DataErr.TheVariants as err
-use Rattle.sc_records.specs.declared.data_err.Limit.TheVariants as limit
 use Rattle.sc_records.specs.declared.references.Reference.{Reference}
 use Rattle.sc_records.specs.Shape.{model_named}
 use Rattle.sc_records.specs.Inserted.{change_table}

@@ -1,6 +1,5 @@
 use Rattle.std.specs.Option.{option_copied}
-use Rattle.std.proofs.Common.{◌==◌, sym, ◌∙◌, ap}
-use Rattle.std.specs.Prelude.{is_some}
+use Rattle.std.proofs.Common.{◌==◌}
 use Rattle.sc_schema.specs.SchemaViews.{static_info_of}
 use Rattle.sc_records.proofs.Searches.{find-seen}
 use Rattle.sc_records.proofs.Tables.{is-some-seen}

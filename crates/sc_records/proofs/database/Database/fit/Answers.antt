@@ -1,5 +1,4 @@
-use Rattle.std.proofs.Common.{◌≡◌, ◌≤◌, refl, sym, ◌∙◌, subst, ap}
-use Rattle.std.specs.Prelude.{Some, None}
+use Rattle.std.proofs.Common.{◌≤◌, refl, sym, ◌∙◌, subst}
 use Rattle.sc_data.specs.Values.{Value}
 use Rattle.sc_records.specs.Changed.{HasRoomFor}
 use Rattle.sc_records.specs.Room.{weight_of, total_weight}

@@ -1,5 +1,5 @@
-use Rattle.std.proofs.Common.{◌≡◌, ◌+◌, ◌-◌, ◌<◌, ◌≤◌, ap, sym, ◌∙◌, subst, arith, get_or, length, map}
-use Rattle.std.specs.Prelude.{Some, None, ◌==◌, position, IfSome}
+use Rattle.std.proofs.Common.{◌≡◌, ◌-◌, ap, sym, ◌∙◌, subst, arith, map}
+use Rattle.std.specs.Prelude.{Some, None, ◌==◌, position}
 use Rattle.std.specs.List.Sorted.{IsStrictlyIncreasing}
 use Rattle.sc_data.specs.Database.{Record}
 use Rattle.sc_records.specs.declared.table.Table as code_table

@@ -1,6 +1,5 @@
-use Rattle.std.proofs.Common.{◌≡◌, ◌==◌, ap, sym, ◌∙◌, refl, map, get_or}
-use Rattle.std.specs.Prelude.{Some, None, position}
-use Rattle.std.specs.List.{find}
+use Rattle.std.proofs.Common.{◌≡◌, ◌==◌, ap, sym, ◌∙◌, map, get_or}
+use Rattle.std.specs.Prelude.{position}
 use Rattle.std.proofs.lemmas.Bool.{eqb-true}
 use Rattle.sc_data.specs.Database as plain
 use Rattle.sc_records.specs.Changed.{with_slot_value}

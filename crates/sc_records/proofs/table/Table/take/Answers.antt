@@ -1,4 +1,4 @@
-use Rattle.std.proofs.Common.{◌≡◌, ◌==◌, ap, sym, ◌∙◌, refl, map, get_or}
+use Rattle.std.proofs.Common.{◌==◌, ap, sym, ◌∙◌, map}
 use Rattle.sc_data.specs.Database as plain
 use Rattle.sc_records.specs.Views.{record_data}
 use Rattle.sc_records.proofs.Firsts.{taken-at, none-taken}
