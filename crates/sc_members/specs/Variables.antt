@@ -28,8 +28,8 @@ content_of (Just v) = Some v
 -- the field and the value of the first filter; of none, 0 and nothing
 abbrev pub first_field : Filters → ℕ
 first_field no_filters = 0
-first_field (filter_and f op e filters) = f
+first_field (filter_and f op e rest) = f
 
 abbrev pub first_value : Filters → Expr
 first_value no_filters = nothing
-first_value (filter_and f op e filters) = e
+first_value (filter_and f op e rest) = e

@@ -2,6 +2,7 @@
 
 ghost use Rattle.std.specs.Prelude.{◌≡◌, ◌&&◌, ◌||◌, ◌++◌, ◌∷◌, [], map, filter, not, IfOk};
 ghost use Rattle.std.specs.List.{list_any};
+ghost use Rattle.std.specs.List.Sorted.{IsStrictlySortedBy};
 ghost use Rattle.sc_schema.specs.Trees.{Items};
 ghost use Rattle.sc_schema.specs.Views as view;
 ghost use Rattle.sc_data.specs.Values as stored;
@@ -9,12 +10,12 @@ ghost use Rattle.sc_data.specs.declared.principals.Principal.{Principal};
 ghost use Rattle.sc_data.specs.declared.principals.Principal.TheVariants.{Rec};
 ghost use Rattle.sc_eval.specs.Meaning as meaning;
 ghost use Rattle.sc_members.specs.Has.{has};
-ghost use Rattle.sc_members.specs.Sets.{is_one_of, is_principal};
+ghost use Rattle.sc_members.specs.Sets.{is_one_of, is_principal, principal_cmp};
 ghost use Rattle.sc_members.specs.Variables.{env_data};
 
 use crate::meaning::{extended, ids_within, truth_at, value};
+use crate::order::{is_found, rising_principals};
 use crate::parts::{id, ids};
-use crate::principals::is_one_of;
 use crate::touching::{id_at, taken_apart};
 use sc_data::Principal;
 use sc_records::{Database, Value};
@@ -28,23 +29,38 @@ pub(crate) enum Gathered {
     AllBut(Vec<Principal>),
 }
 
-/// Those of the first list that are in the second, or those that are not.
-fn parted(
+/// Those of the first list that are in the second, which rises, or those that are not.
+fn chosen(
     alloc: Global,
     ps: &[Principal],
     qs: &[Principal],
     wanted: bool,
 ) -> Result<Vec<Principal>, AllocError>
+    requires { IsStrictlySortedBy principal_cmp qs.now }
     ensures { IfOk result (λ all. all.items
         ≡ filter (λ p. meaning.same_truth wanted (is_one_of qs.now p)) ps.now) }
 {
     let mut all = Vec::new(alloc);
     for p in ps {
-        if is_one_of(qs, *p) == wanted {
+        if is_found(qs, *p) == wanted {
             all.push(*p)?;
         }
     }
     Ok(all)
+}
+
+/// Those of the first list that are in the second, or those that are not.
+fn parted(
+    alloc: Global,
+    ps: &[Principal],
+    qs: Vec<Principal>,
+    wanted: bool,
+) -> Result<Vec<Principal>, AllocError>
+    ensures { IfOk result (λ all. all.items
+        ≡ filter (λ p. meaning.same_truth wanted (is_one_of qs.items p)) ps.now) }
+{
+    let qs = rising_principals(qs);
+    chosen(alloc, ps, qs.as_slice(), wanted)
 }
 
 /// Those of either list.
@@ -63,15 +79,15 @@ impl Gathered {
         match (self, other) {
             (Gathered::Only(ps), Gathered::Only(qs)) => Ok(Gathered::Only(joined(ps, qs)?)),
             (Gathered::Only(ps), Gathered::AllBut(qs)) => {
-                let left = parted(alloc, qs.as_slice(), ps.as_slice(), false)?;
+                let left = parted(alloc, qs.as_slice(), ps, false)?;
                 Ok(Gathered::AllBut(left))
             }
             (Gathered::AllBut(ps), Gathered::Only(qs)) => {
-                let left = parted(alloc, ps.as_slice(), qs.as_slice(), false)?;
+                let left = parted(alloc, ps.as_slice(), qs, false)?;
                 Ok(Gathered::AllBut(left))
             }
             (Gathered::AllBut(ps), Gathered::AllBut(qs)) => {
-                let both = parted(alloc, ps.as_slice(), qs.as_slice(), true)?;
+                let both = parted(alloc, ps.as_slice(), qs, true)?;
                 Ok(Gathered::AllBut(both))
             }
         }
@@ -97,7 +113,8 @@ fn difference(alloc: Global, a: Gathered, b: Gathered) -> Result<Gathered, Alloc
 
 /// The records of the model with these ids.
 fn records(alloc: Global, m: ModelNo, ids: &[u64]) -> Result<Gathered, AllocError>
-    ensures { IfOk result (λ all. (q : Principal) → has all q ≡ is_one_of (map (λ y. Rec m y) ids.now) q) }
+    ensures { IfOk result (λ all. (q : Principal) → has all q
+        ≡ is_one_of (map (λ y. Rec m y) ids.now) q) }
 {
     let mut ps = Vec::new(alloc);
     for id in ids {

@@ -2,7 +2,7 @@
 //!
 //! | module | holds |
 //! |---|---|
-//! | `answers` | whom a policy allows a right, who is in a set, and what an initialiser gives and reads |
+//! | `answers` | whom a policy allows a right, who is in a set, what an initialiser gives, reads |
 //! | `meaning` | the value of an expression, and whether a principal is in a set |
 //! | `parts`, `principals` | parts of values, and how they compare |
 //! | `seen` | the value of an expression |

@@ -2,7 +2,8 @@
 
 ghost use Rattle.std.specs.Prelude.{◌≡◌};
 ghost use Rattle.sc_eval.specs.Meaning.{id_of_record};
-ghost use Rattle.sc_members.specs.Sets.{number, principal_cmp, rank};
+ghost use Rattle.std.specs.List.Sorted.{IsStrictlySortedBy};
+ghost use Rattle.sc_members.specs.Sets.{is_one_of, number, principal_cmp, rank};
 ghost use Rattle.sc_members.specs.Touching.{IsSetOf, cell_cmp};
 
 use sc_data::Principal;
@@ -54,4 +55,16 @@ pub(crate) fn rising_principals(mut ps: Vec<Principal>) -> Vec<Principal>
     ps.sort_unstable_by_key(|p| (rank(*p), number(*p), record_id(*p)));
     ps.dedup();
     ps
+}
+
+/// Whether the principal is one of these, which rise. It is sought in a logarithm of their number.
+pub(crate) fn is_found(ps: &[Principal], who: Principal) -> bool
+    requires { IsStrictlySortedBy principal_cmp ps.now }
+    ensures { result ≡ is_one_of ps.now who }
+{
+    let place = (rank(who), number(who), record_id(who));
+    match ps.binary_search_by_key(&place, |p| (rank(*p), number(*p), record_id(*p))) {
+        Ok(_) => true,
+        Err(_) => false,
+    }
 }

@@ -3,7 +3,6 @@
 ghost use Rattle.std.specs.Prelude.{◌≡◌};
 ghost use Rattle.sc_records.specs.Views.{value_data};
 ghost use Rattle.sc_eval.specs.Meaning as meaning;
-ghost use Rattle.sc_members.specs.Sets.{is_one_of, is_principal};
 
 use crate::parts::id;
 use sc_data::Principal;
@@ -38,21 +37,4 @@ pub(crate) fn is_static(n: StaticNo, who: Principal) -> bool
         Principal::Static(k) => k == n,
         Principal::Rec(_, _) => false,
     }
-}
-
-/// Whether two principals are the same.
-fn is_principal(p: Principal, who: Principal) -> bool
-    ensures { result ≡ is_principal p who }
-{
-    match p {
-        Principal::Static(n) => is_static(n, who),
-        Principal::Rec(m, id) => is_record(m, &Value::Id(id), who),
-    }
-}
-
-/// Whether the principal is one of these.
-pub(crate) fn is_one_of(ps: &[Principal], who: Principal) -> bool
-    ensures { result ≡ is_one_of ps.now who }
-{
-    ps.iter().any(|p| is_principal(*p, who))
 }

@@ -107,8 +107,8 @@ impl Database {
         }
     }
 
-    /// Whether the principal is a static one of the schema, or a record that is there of a model that
-    /// the schema marks.
+    /// Whether the principal is a static one of the schema, or a record that is there of a model
+    /// that the schema marks.
     pub fn has_principal(&self, s: &Schema, who: Principal) -> bool
         ensures { result ≡ is_principal_of (schema_of s.now) self.now who }
     {
@@ -273,7 +273,8 @@ impl Database {
     /// What it weighs with a value in place of one that it holds, or None where that is too much.
     fn reweighed(&self, old: &Value, v: &Value) -> Option<u64>
         requires { weight_of (value_data old.now) ≤ total_weight self.now }
-        ensures { MatchOption result (HasRoomFor self.now (value_data old.now) (value_data v.now) → ⊥)
+        ensures { MatchOption result
+            (HasRoomFor self.now (value_data old.now) (value_data v.now) → ⊥)
             (λ weight. HasRoomFor self.now (value_data old.now) (value_data v.now) ×
             (weight + weight_of (value_data old.now)
             ≡ total_weight self.now + weight_of (value_data v.now))) }
@@ -334,9 +335,9 @@ impl Database {
 
     /// Puts a value into the field of the record.
     ///
-    /// Refused, in this order: a record that is not there, or has no such field, a value that is not
-    /// of the field's type, an id that names no record, a weight that rises above the limit. The
-    /// database is then as it was, and so it is where memory is wanting.
+    /// Refused, in this order: a record that is not there, or has no such field, a value that is
+    /// not of the field's type, an id that names no record, a weight that rises above the limit.
+    /// The database is then as it was, and so it is where memory is wanting.
     pub fn set_field(
         &mut self,
         alloc: Global,

@@ -125,7 +125,8 @@ fn first_in(database: &Database, m: ModelNo, id: u64, info: &ModelInfo) -> Optio
     }
 }
 
-/// The first field of another record of these models that names the record of model `m` with the id.
+/// The first field of another record of these models that names the record of model `m` with the
+/// id.
 pub(crate) fn first_reference(
     database: &Database,
     models: &[ModelInfo],
