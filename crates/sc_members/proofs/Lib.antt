@@ -1,1 +1,6 @@
+pub mod CellReads
+pub mod Founds
+pub mod Gathers
+pub mod Levels
 pub mod Loops
+pub mod Orders

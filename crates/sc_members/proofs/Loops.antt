@@ -4,12 +4,9 @@ use Rattle.std.specs.Prelude.{filter, Result, IfOk}
 use Rattle.std.specs.List.{list_any}
 use Rattle.std.proofs.lemmas.List.{take_all}
 use Rattle.sc_schema.specs.declared.trees.TExpr.{TExpr}
-use Rattle.sc_schema.specs.declared.trees.TExpr.TheOpen.{TSet-F}
-use Rattle.sc_schema.specs.declared.trees.TExpr.TheFolds.{fold-roll-TSet}
 use Rattle.sc_schema.specs.declared.trees.TSet.{TSet}
 use Rattle.sc_schema.specs.declared.trees.TSet.TheVariants as s
-use Rattle.sc_schema.specs.Trees.{Expr, SetExpr, mapped, flat_mapped}
-use Rattle.sc_schema.specs.Views.{ItemsMore, FiltersMore, expr_step, item_step, filter_step, set_step, expr_of, set_of}
+use Rattle.sc_schema.specs.Views.{expr_of, set_of}
 use Rattle.sc_data.specs.declared.principals.Principal.{Principal}
 use Rattle.sc_data.specs.declared.principals.Principal.TheVariants.{Rec}
 use Rattle.sc_data.specs.Values.{Id}
@@ -17,16 +14,9 @@ use Rattle.sc_data.specs.Database.{Record, Database, records_of, ids_of}
 use Rattle.sc_records.specs.declared.record.Record as code_record
 use Rattle.sc_records.specs.Views.{record_data}
 use Rattle.sc_eval.specs.Meaning.{Env, value_of, member, is_record}
+use Rattle.sc_members.proofs.Levels.{MapS_is, FlatS_is}
 
-MapS_is : (set : TSet) (n : ℕ) (x : List ℕ) (m : ℕ) (e : TExpr) → set_of (s.MapS set n x m e) ≡ mapped (set_of set) n x m (expr_of e)
-MapS_is set n x m e =
-    ap set_of (sym (s.rolls-MapS set n x m e)) ∙ fold-roll-TSet Expr FiltersMore ItemsMore SetExpr expr_step filter_step item_step set_step (TSet-F.MapS set n x m e)
-
-FlatS_is : (set : TSet) (n : ℕ) (x : List ℕ) (body : TSet) → set_of (s.FlatS set n x body) ≡ flat_mapped (set_of set) n x (set_of body)
-FlatS_is set n x body =
-    ap set_of (sym (s.rolls-FlatS set n x body)) ∙ fold-roll-TSet Expr FiltersMore ItemsMore SetExpr expr_step filter_step item_step set_step (TSet-F.FlatS set n x body)
-
-any-filtered : {A : Type 0} (p q : A → Bool) (xs : List A) → list_any q (filter p xs) ≡ list_any (λ x. p x && q x) xs
+pub any-filtered : {A : Type 0} (p q : A → Bool) (xs : List A) → list_any q (filter p xs) ≡ list_any (λ x. p x && q x) xs
 any-filtered p q [] = refl
 any-filtered {A} p q (x ∷ xs) =
     elim (p x) as (λ (b : Bool). list_any q (cond b (x ∷ filter p xs) (filter p xs)) ≡ ((b && q x) || list_any (λ y. p y && q y) xs)) [

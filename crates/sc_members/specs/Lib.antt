@@ -1,2 +1,5 @@
+pub mod Has
 pub mod Public
+pub mod Sets
+pub mod Touching
 pub mod Variables

@@ -1,7 +1,8 @@
--- The plain data that the values of the code stand for.
-use Rattle.std.specs.Prelude.{List, map, Option, Some, None}
+-- The plain data that the values of the code stand for, and parts of plain data.
+use Rattle.std.specs.Prelude.{ℕ, List, map, Option, Some, None}
 use Rattle.sc_records.specs.declared.value.Value as code_value
 use Rattle.sc_records.specs.Views.{value_data}
+use Rattle.sc_schema.specs.Trees.{Expr, nothing, Filters, no_filters, filter_and}
 use Rattle.sc_data.specs.Values.{Value, Flag, Num, Str, Id, Ids, Nothing, Just}
 use Rattle.sc_members.specs.declared.seen.Seen as code_seen
 use Rattle.sc_members.specs.declared.seen.Seen.TheVariants.{Held, Made}
@@ -23,3 +24,12 @@ content_of (Id id) = None
 content_of (Ids ids) = None
 content_of Nothing = None
 content_of (Just v) = Some v
+
+-- the field and the value of the first filter; of none, 0 and nothing
+abbrev pub first_field : Filters → ℕ
+first_field no_filters = 0
+first_field (filter_and f op e rest) = f
+
+abbrev pub first_value : Filters → Expr
+first_value no_filters = nothing
+first_value (filter_and f op e rest) = e

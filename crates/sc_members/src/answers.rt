@@ -1,15 +1,25 @@
-//! Whom a policy allows a right, and what an initialiser gives.
+//! Whom a policy allows a right, who is in a set, and what an initialiser gives and reads.
 
-ghost use Rattle.std.specs.Prelude.{◌≡◌, IfOk};
+ghost use Rattle.std.specs.Prelude.{◌≡◌, ◌++◌, IfOk, OnOk};
 ghost use Rattle.sc_schema.specs.Views as view;
 ghost use Rattle.sc_eval.specs.Meaning as meaning;
 ghost use Rattle.sc_eval.specs.Run.{init_value};
+ghost use Rattle.sc_eval.specs.Touched.{init_touched};
+ghost use Rattle.sc_members.specs.Has.{has};
+ghost use Rattle.sc_members.specs.Sets.{Denotes};
+ghost use Rattle.sc_members.specs.Touching.{IsSetOf, cell_cmp};
+ghost use Rattle.sc_members.specs.Variables.{env_data};
 ghost use Rattle.sc_records.specs.Views.{value_data};
 
+use crate::gathering::{Gathered, gather};
 use crate::meaning::{holds, ids_within, value};
+use crate::order::{rising_cells, rising_principals};
+use crate::sets::PrincipalSet;
+use crate::touching::{touch, touch_set};
 use sc_data::Principal;
+use sc_eval::Cell;
 use sc_records::{Database, Value};
-use sc_schema::{TInit, TPolicy};
+use sc_schema::{TInit, TPolicy, TSet};
 use sqlite_items::Items;
 use std::alloc::{AllocError, Global};
 
@@ -47,4 +57,69 @@ pub fn init_value(
             Ok(Value::Ids(Items::from_vec(ids)))
         }
     }
+}
+
+/// Adds the cells that the initialiser reads at the record with this id.
+fn touch_init(
+    alloc: Global,
+    database: &Database,
+    init: &TInit,
+    id: u64,
+    found: &mut Vec<Cell>,
+) -> Result<(), AllocError>
+    ensures { OnOk result (found.new.items ≡ found.old.items
+        ++ init_touched database.now (view.init_of init.now) id) }
+{
+    match init {
+        TInit::Plain(e) => touch(alloc, database, e, &[Value::Id(id)], found),
+        TInit::OfSet(_, set) => touch_set(alloc, database, set, &[Value::Id(id)], found),
+    }
+}
+
+/// The cells that the initialiser reads at the record with this id, by rising model, id and field,
+/// each once.
+pub fn touched(
+    alloc: Global,
+    database: &Database,
+    init: &TInit,
+    id: u64,
+) -> Result<Vec<Cell>, AllocError>
+    ensures { IfOk result (λ cells. IsSetOf cell_cmp cells.items
+        (init_touched database.now (view.init_of init.now) id)) }
+{
+    let mut found = Vec::new(alloc);
+    touch_init(alloc, database, init, id, &mut found)?;
+    Ok(rising_cells(found))
+}
+
+/// A set of these principals, with rising lists.
+fn set_of(alloc: Global, all: Gathered) -> PrincipalSet
+    ensures { Denotes result (has all) }
+{
+    match all {
+        Gathered::Only(ps) => PrincipalSet {
+            everyone: false,
+            some: rising_principals(ps),
+            but: Vec::new(alloc),
+        },
+        Gathered::AllBut(ps) => PrincipalSet {
+            everyone: true,
+            some: Vec::new(alloc),
+            but: rising_principals(ps),
+        },
+    }
+}
+
+/// The principals, or records, that are in the set where the variables have these values.
+pub fn members(
+    alloc: Global,
+    database: &Database,
+    set: &TSet,
+    env: &[Value],
+) -> Result<PrincipalSet, AllocError>
+    ensures { IfOk result (λ all. Denotes all
+        (meaning.member database.now (env_data env.now) (view.set_of set.now))) }
+{
+    let all = gather(alloc, database, set, env)?;
+    Ok(set_of(alloc, all))
 }

@@ -2,16 +2,26 @@
 //!
 //! | module | holds |
 //! |---|---|
-//! | `answers` | whom a policy allows a right, and what an initialiser gives |
+//! | `answers` | whom a policy allows a right, who is in a set, what an initialiser gives, reads |
 //! | `meaning` | the value of an expression, and whether a principal is in a set |
 //! | `parts`, `principals` | parts of values, and how they compare |
 //! | `seen` | the value of an expression |
+//! | `touching` | the cells that expressions and sets read |
+//! | `gathering`, `sets` | the principals of a set |
+//! | `order` | lists as sets |
 #![tactic(auto)]
 
 mod answers;
+mod gathering;
 mod meaning;
+mod order;
 mod parts;
 mod principals;
 mod seen;
+mod sets;
+#[cfg(test)]
+mod tests;
+mod touching;
 
-pub use answers::{allows, init_value};
+pub use answers::{allows, init_value, members, touched};
+pub use sets::PrincipalSet;

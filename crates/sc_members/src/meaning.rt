@@ -43,7 +43,11 @@ fn value_at<'d>(alloc: Global, depth: u32, env: &[Value]) -> Result<Seen<'d>, Al
 }
 
 /// The values of variables, and of one more inside them.
-fn extended(alloc: Global, env: &[Value], inner: &Value) -> Result<Vec<Value>, AllocError>
+pub(crate) fn extended(
+    alloc: Global,
+    env: &[Value],
+    inner: &Value,
+) -> Result<Vec<Value>, AllocError>
     ensures { IfOk result (λ all. env_data all.items
         ≡ env_data env.now ++ value_data inner.now ∷ []) }
 {
@@ -83,7 +87,7 @@ fn field<'d>(database: &'d Database, m: ModelNo, id: u64, f: FieldNo) -> Seen<'d
 }
 
 /// What stands in an option.
-fn content(v: &Value) -> Option<&Value>
+pub(crate) fn content(v: &Value) -> Option<&Value>
     ensures { option_map value_data (option_copied result) ≡ content_of (value_data v.now) }
 {
     match v {
@@ -197,7 +201,7 @@ pub(crate) fn value<'d>(
 
 /// Whether an expression is true.
 #[cycle(meaning)]
-fn truth_at(
+pub(crate) fn truth_at(
     alloc: Global,
     database: &Database,
     e: &TExpr,

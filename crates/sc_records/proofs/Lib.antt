@@ -2,3 +2,11 @@ pub mod Searches
 pub mod Tables
 pub mod Pushed
 pub mod Summed
+pub mod Firsts
+pub mod Changes
+pub mod Places
+pub mod Stays
+pub mod Real
+pub mod FieldSet
+pub mod RowIn
+pub mod RowOut

@@ -79,7 +79,7 @@ ids-push : (rs : List Record) (r : Record) → ids_by (rs ++ r ∷ []) ≡ ids_b
 ids-push [] r = refl
 ids-push (u ∷ rs) r = ap (λ ids. u.id ∷ ids) (ids-push rs r)
 
-rising-push : (rs : List Record) (r : Record) → IsStrictlyIncreasing (ids_by rs) → AllByRecursion (λ (u : Record). u.id < r.id) rs → IsStrictlyIncreasing (ids_by (rs ++ r ∷ []))
+pub rising-push : (rs : List Record) (r : Record) → IsStrictlyIncreasing (ids_by rs) → AllByRecursion (λ (u : Record). u.id < r.id) rs → IsStrictlyIncreasing (ids_by (rs ++ r ∷ []))
 rising-push rs r up all = subst IsStrictlyIncreasing (sym (ids-push rs r)) (increasing-push (ids_by rs) r.id up (below-at r.id rs all))
 
 given-push : (n : ℕ) (rs : List Record) (r : Record) → AllByRecursion (λ (u : Record). u.id < n) rs → r.id ≡ n → AllByRecursion (λ (u : Record). u.id < n + 1) (rs ++ r ∷ [])

@@ -10,6 +10,7 @@ use Rattle.std.specs.Result.{MatchResult}
 use Rattle.std.specs.Cmp.{unsigned_ties}
 use Rattle.std.specs.declared.cmp.Ordering.{Ordering}
 use Rattle.std.specs.declared.cmp.Ordering.TheVariants.{Less, Greater}
+use Rattle.sc_records.specs.Rising.{IsFirstAt}
 use Rattle.std.proofs.lemmas.Bool.{cases_order, eqb-true, ne_eqb}
 use Rattle.std.proofs.lemmas.Bool.Decides.{nat_tests}
 use Rattle.std.proofs.lemmas.List.{get_or-map, length-map}
@@ -56,15 +57,24 @@ is-not a x o not_equal h = unsigned_ties a x ∙ ap is_eq h ∙ not_equal
 or-later : (a b : ℕ) → (a < b) ⊎ (b ≤ a)
 or-later a b = ⊎_elim (λ e. inr (omega arith)) (λ o. ⊎_elim (λ l. inl l) (λ l. inr (omega arith)) o) (cases_order a b)
 
+-- the search found the place
+first_by : {X : Type 0} (key : X → ℕ) (id : ℕ) (xs : List X) (i : ℕ) → IsStrictlyIncreasing (map key xs) → i < length xs
+    → IsBinarySearchResult (λ y. nat_cmp (key y) id) xs (Ok i) → IsFirstAt (λ x. key x == id) xs i
+first_by {X} key id xs i up below h =
+    let it : (d : X) → (key (get_or xs i d) == id) ≡ true = λ d. unsigned_ties (key (get_or xs i d)) id ∙ ap is_eq (h d) in (
+      below,
+      it,
+      (λ k d less. ne_eqb (key (get_or xs k d)) id (λ e.
+          let there : key (get_or xs i d) ≡ id = eqb-true _ _ (it d) in
+          omega (arith, rises key xs up k i d less below))),
+    )
+
 pub searched_by : {X : Type 0} (key : X → ℕ) (id : ℕ) (xs : List X) (r : Result ℕ ℕ) → IsStrictlyIncreasing (map key xs) → IsSearchInRange r (length xs)
     → IsBinarySearchResult (λ y. nat_cmp (key y) id) xs r
     → MatchResult r (λ i. find (λ x. key x == id) xs ≡ slice_get xs i) (λ i. find (λ x. key x == id) xs ≡ None)
 searched_by {X} key id xs (Ok i) up below h =
-    let it : (d : X) → (key (get_or xs i d) == id) ≡ true = λ d. unsigned_ties (key (get_or xs i d)) id ∙ ap is_eq (h d) in
-    find-first (λ x. key x == id) xs i below it
-    (λ k d less. ne_eqb (key (get_or xs k d)) id (λ e.
-    let there : key (get_or xs i d) ≡ id = eqb-true _ _ (it d) in
-    omega (arith, rises key xs up k i d less below)))
+    let at = first_by key id xs i up below h in
+    find-first (λ x. key x == id) xs i at.0 at.1 at.2
 searched_by {X} key id xs (Err i) up within h =
     let at : ℕ → X → ℕ = λ k d. key (get_or xs k d) in
     let parted = h (λ a b d le less. ⊎_elim
@@ -76,3 +86,9 @@ searched_by {X} key id xs (Err i) up within h =
     (λ k d less. ⊎_elim
     (λ before. is-not (at k d) id Less refl (parted.0 k d (omega arith) before))
     (λ after. is-not (at k d) id Greater refl (parted.1 k d after less)) (or-later k i))
+
+pub placed_by : {X : Type 0} (key : X → ℕ) (id : ℕ) (xs : List X) (r : Result ℕ ℕ) → IsStrictlyIncreasing (map key xs) → IsSearchInRange r (length xs)
+    → IsBinarySearchResult (λ y. nat_cmp (key y) id) xs r
+    → MatchResult r (λ i. IsFirstAt (λ x. key x == id) xs i) (λ i. find (λ x. key x == id) xs ≡ None)
+placed_by key id xs (Ok i) up below h = first_by key id xs i up below h
+placed_by key id xs (Err i) up within h = searched_by key id xs (Err i) up within h

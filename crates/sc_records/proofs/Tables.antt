@@ -32,7 +32,7 @@ find-each {A} P p f (y ∷ xs) x all e =
       | false ↦ λ h. find-each P p f xs x all.1 h
     ] e
 
-ids-seen : (rs : List code_record.Record) → map (λ (r : Record). r.id) (map record_data rs) ≡ map (λ r. r.id) rs
+pub ids-seen : (rs : List code_record.Record) → map (λ (r : Record). r.id) (map record_data rs) ≡ map (λ r. r.id) rs
 ids-seen [] = refl
 ids-seen (r ∷ rs) = ap (λ ids. r.id ∷ ids) (ids-seen rs)
 

@@ -1,7 +1,11 @@
+pub mod Changed
 pub mod Codes
 pub mod Inserted
+pub mod Keeping
 pub mod Kept
+pub mod Principals
 pub mod Public
+pub mod Removed
 pub mod Rising
 pub mod Room
 pub mod Rows

@@ -6,3 +6,7 @@ pub use Rattle.sc_records.specs.Room.{weight_of, record_count, total_weight, Has
 pub use Rattle.sc_records.specs.Inserted.{empty_of, with_row, IsAdmitted, IsRefused, Inserts}
 pub use Rattle.sc_records.specs.Kept.{AreGiven}
 pub use Rattle.sc_records.specs.Rising.{AreRising}
+pub use Rattle.sc_records.specs.Changed.{with_field, has_field, HasRoomFor, IsFitting, IsUnfit, Sets}
+pub use Rattle.sc_records.specs.Removed.{first_reference, without_record, IsHeld, Removes}
+pub use Rattle.sc_records.specs.Principals.{is_principal_of}
+pub use Rattle.sc_records.specs.Keeping.{ChangesKeep, DatabasesStay, RecordsHaveFields}

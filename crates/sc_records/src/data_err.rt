@@ -19,6 +19,7 @@ pub enum Limit {
 /// Why a change of a database was refused. The database is as it was.
 #[derive(Clone, Copy, Debug, PartialEq, Eq, Error)]
 pub enum DataErr {
+    /// There is no record of the model with the id, or it has no such field.
     #[error("there is no such record")]
     NoRecord,
     /// The first field whose value is not of its type.

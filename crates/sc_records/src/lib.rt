@@ -8,13 +8,19 @@
 //! | `data_err` | `DataErr`, why a change is refused |
 //! | `shape`, `rows`, `weights` | which values and rows fit |
 //! | `table` | the records of a model |
+//! | `references` | which fields name a record |
+//! | `principals` | principals of a schema |
+//! | `laws` | laws over the definitions |
 //!
 //! `specs/Views.antt` says which plain data the types stand for.
 #![tactic(auto)]
 
 mod data_err;
 mod database;
+mod laws;
+mod principals;
 mod record;
+mod references;
 mod rows;
 mod shape;
 mod table;
@@ -25,6 +31,8 @@ mod weights;
 
 pub use data_err::{DataErr, Limit};
 pub use database::Database;
+pub use laws::{databases_stay, records_have_fields};
 pub use record::{Record, Slot};
+pub use references::Reference;
 pub use table::Table;
 pub use value::Value;

@@ -1,9 +1,10 @@
 //! Records.
 
-ghost use Rattle.std.specs.Prelude.{◌≡◌, ◌==◌, map, option_copied};
+ghost use Rattle.std.specs.Prelude.{◌≡◌, ◌==◌, map, option_copied, position};
 ghost use Rattle.std.specs.List.{find};
 ghost use Rattle.std.specs.Option.{option_map};
-ghost use Rattle.sc_records.specs.Views.{slot_data, value_data};
+ghost use Rattle.sc_records.specs.Changed.{with_value};
+ghost use Rattle.sc_records.specs.Views.{record_data, slot_data, value_data};
 
 use crate::value::Value;
 use sc_schema::FieldNo;
@@ -30,7 +31,25 @@ fn slot_in(slots: &[Slot], f: FieldNo) -> Option<&Slot>
     slots.iter().find(|slot| slot.field == f)
 }
 
+/// The place of the slot of a field.
+fn place_of(slots: &[Slot], f: FieldNo) -> Option<usize>
+    ensures { result ≡ position (λ slot. slot.field == f) slots.now }
+{
+    slots.iter().position(|slot| slot.field == f)
+}
+
 impl Record {
+    /// Puts the value into its field, if the record has it.
+    pub(crate) fn put(&mut self, slot: Slot)
+        ensures { record_data self.new
+            ≡ with_value slot.field (value_data slot.value) (record_data self.old) }
+    {
+        match place_of(self.slots.as_slice(), slot.field) {
+            Some(place) => self.slots.set(place, slot),
+            None => {}
+        }
+    }
+
     /// The value of the field, or None where the record has no such field.
     pub fn value(&self, f: FieldNo) -> Option<&Value>
         ensures { option_map value_data (option_copied result)

@@ -108,7 +108,7 @@ fn base_model(b: TBase) -> Option<ModelNo>
 }
 
 /// The model whose records the ids of a type are.
-fn model_named(t: TTy) -> Option<ModelNo>
+pub(crate) fn model_named(t: TTy) -> Option<ModelNo>
     ensures { result ≡ model_named t }
 {
     match t {

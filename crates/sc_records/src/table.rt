@@ -1,12 +1,16 @@
 //! Tables.
 
-ghost use Rattle.std.specs.Prelude.{◌≡◌, ◌==◌, ◌<◌, map, option_copied, OnOk, OnErr};
+ghost use Rattle.std.specs.Prelude.{◌≡◌, ◌==◌, ◌<◌, map, option_copied};
+ghost use Rattle.std.specs.Prelude.{MatchOption, OnOk, OnErr};
 ghost use Rattle.std.specs.List.{find};
 ghost use Rattle.std.specs.List.Sorted.{IsStrictlyIncreasing};
 ghost use Rattle.sc_records.specs.Inserted.{with_record};
-ghost use Rattle.sc_records.specs.Views.{record_data, table_data};
+ghost use Rattle.sc_records.specs.Changed.{with_value_in};
+ghost use Rattle.sc_records.specs.Removed.{without_record_in};
+ghost use Rattle.sc_records.specs.Rising.{IsFirstAt};
+ghost use Rattle.sc_records.specs.Views.{record_data, table_data, value_data};
 
-use crate::record::Record;
+use crate::record::{Record, Slot};
 use sc_schema::ModelNo;
 use std::alloc::AllocError;
 
@@ -29,7 +33,47 @@ pub(crate) fn record_in(records: &[Record], id: u64) -> Option<&Record>
     }
 }
 
+/// The place of the record with the id among records by rising id.
+fn place_of(records: &[Record], id: u64) -> Option<usize>
+    requires { IsStrictlyIncreasing (map (λ r. r.id) records.now) }
+    ensures { MatchOption result (find (λ r. r.id == id) records.now ≡ None)
+        (λ at. IsFirstAt (λ r. r.id == id) records.now at) }
+{
+    match records.binary_search_by_key(&id, |record| record.id) {
+        Ok(at) => Some(at),
+        Err(_) => None,
+    }
+}
+
 impl Table {
+    /// Puts the value into its field of the record, if it is there.
+    pub(crate) fn put(&mut self, id: u64, slot: Slot)
+        requires { IsStrictlyIncreasing (map (λ r. r.id) self.old.records.items) }
+        ensures { table_data self.new
+            ≡ with_value_in id slot.field (value_data slot.value) (table_data self.old) }
+    {
+        match place_of(self.records.as_slice(), id) {
+            Some(at) => {
+                let record = &mut self.records[at];
+                record.put(slot);
+            }
+            None => {}
+        }
+    }
+
+    /// Takes out the record, if it is there.
+    pub(crate) fn take(&mut self, id: u64)
+        requires { IsStrictlyIncreasing (map (λ r. r.id) self.old.records.items) }
+        ensures { table_data self.new ≡ without_record_in id (table_data self.old) }
+    {
+        match place_of(self.records.as_slice(), id) {
+            Some(at) => {
+                let _taken = self.records.remove(at);
+            }
+            None => {}
+        }
+    }
+
     /// Puts a record at the end, and raises the next id.
     pub(crate) fn push(&mut self, made: Record) -> Result<(), AllocError>
         requires { self.old.next < 18446744073709551615 }

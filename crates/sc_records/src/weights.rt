@@ -1,13 +1,26 @@
 //! How much values weigh.
 
-ghost use Rattle.std.specs.Prelude.{◌≡◌, ◌+◌, ◌<◌, length, map, IfSome, MatchOption};
-ghost use Rattle.std.specs.List.{sum_by};
+ghost use Rattle.std.specs.Prelude.{◌≡◌, ◌+◌, ◌^◌, ◌<◌, length, map, IfSome, MatchOption};
 ghost use Rattle.sc_records.specs.Room.{row_weight, weight_of};
-ghost use Rattle.sc_records.specs.Views.{value_data};
+ghost use Rattle.sc_records.specs.Views.{slot_data, value_data};
+ghost use Rattle.std.specs.List.{sum_by};
 
 use crate::record::{Record, Slot};
 use crate::table::Table;
 use crate::value::Value;
+
+/// The weight of a value.
+pub(crate) fn weight(v: &Value) -> u64
+    requires { weight_of (value_data v.now) < 2 ^ 64 }
+    ensures { result ≡ weight_of (value_data v.now) }
+{
+    match v {
+        Value::Flag(_) | Value::Num(_) | Value::Id(_) | Value::Nothing => 1,
+        Value::Str(text) => 1 + text.bytes().len() as u64,
+        Value::Ids(ids) => 1 + 8 * ids.len() as u64,
+        Value::Just(inner) => weight(inner.get()),
+    }
+}
 
 /// What is left of a number without this one.
 fn without(left: u64, weight: u64) -> Option<u64>
@@ -21,7 +34,7 @@ fn without(left: u64, weight: u64) -> Option<u64>
 }
 
 /// What is left of a number without the weight of a value, or None where the value weighs more.
-fn without_value(left: u64, v: &Value) -> Option<u64>
+pub(crate) fn without_value(left: u64, v: &Value) -> Option<u64>
     ensures { MatchOption result (left < weight_of (value_data v.now)) (λ rest. rest
         + weight_of (value_data v.now) ≡ left) }
 {
@@ -117,4 +130,15 @@ pub(crate) fn count_in(tables: &[Table]) -> Option<usize>
         count = count.checked_add(table.records.len())?;
     }
     Some(count)
+}
+
+/// The weight of a record with these slots.
+pub(crate) fn slots_weight(slots: &[Slot]) -> u64
+    requires { sum_by (λ slot. weight_of slot.value) (map slot_data slots.now) < 2 ^ 64 }
+    ensures { result ≡ sum_by (λ slot. weight_of slot.value) (map slot_data slots.now) }
+{
+    let Some((slot, slots)) = slots.split_first() else {
+        return 0;
+    };
+    weight(&slot.value) + slots_weight(slots)
 }
