@@ -13,7 +13,7 @@ ghost use Rattle.sc_tree.specs.declared.models.Spec.{Spec};
 ghost use Rattle.sc_tree.specs.Grammar.{policy_form, script_form, spec_form};
 ghost use Rattle.sc_tree.specs.Stripped.{stripped_expr, stripped_policy, stripped_set};
 ghost use Rattle.sc_tree.specs.Stripped.{stripped_script, stripped_spec};
-ghost use Rattle.sc_tree.specs.Texts.{IsScriptText, IsSpecText, IsSpelled, IsTextOf};
+ghost use Rattle.sc_tree.specs.Texts.{IsScriptText, IsSpecText, IsSpelled, IsSpelledAt, IsTextOf};
 ghost use Rattle.sc_print.specs.Commands.{spelled_script};
 ghost use Rattle.sc_print.specs.Exprs.{spelled_expr, spelled_set};
 ghost use Rattle.sc_print.specs.Marks.{lexemes_of_marks, text_of_marks};
@@ -83,4 +83,23 @@ pub fn parentheses_are_needed()
         lexemes_of_marks (spelled_policy x) ≡ a ++ left ∷ (b ++ right ∷ c) →
         map lexeme ls ≡ a ++ (b ++ c) →
         AreTokens ls → IsSpelled policy_form y ls → ¬ (stripped_policy y ≡ stripped_policy x) }
+{}
+
+/// What tokens spell, the same tokens at other places spell too, offsets aside.
+pub fn spelled_elsewhere()
+    ensures expressions { (n : ℕ) (x : Expr) (ls ks : List Piece) → map lexeme ks ≡ map lexeme ls →
+        IsSpelledAt n (part Expression) x ls →
+        (y : Expr) × IsSpelledAt n (part Expression) y ks × (stripped_expr y ≡ stripped_expr x) }
+    ensures sets { (n : ℕ) (x : SetExpr) (ls ks : List Piece) → map lexeme ks ≡ map lexeme ls →
+        IsSpelledAt n (part Set) x ls →
+        (y : SetExpr) × IsSpelledAt n (part Set) y ks × (stripped_set y ≡ stripped_set x) }
+    ensures policies { (n : ℕ) (x : Policy) (ls ks : List Piece) → map lexeme ks ≡ map lexeme ls →
+        IsSpelledAt n policy_form x ls →
+        (y : Policy) × IsSpelledAt n policy_form y ks × (stripped_policy y ≡ stripped_policy x) }
+    ensures specifications { (n : ℕ) (x : Spec) (ls ks : List Piece) →
+        map lexeme ks ≡ map lexeme ls → IsSpelledAt n spec_form x ls →
+        (y : Spec) × IsSpelledAt n spec_form y ks × (stripped_spec y ≡ stripped_spec x) }
+    ensures scripts { (n : ℕ) (x : Script) (ls ks : List Piece) →
+        map lexeme ks ≡ map lexeme ls → IsSpelledAt n script_form x ls →
+        (y : Script) × IsSpelledAt n script_form y ks × (stripped_script y ≡ stripped_script x) }
 {}

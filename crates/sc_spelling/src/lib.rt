@@ -7,5 +7,6 @@
 mod laws;
 
 pub use laws::{
-    parentheses_are_needed, policies_are_reprinted, printed_texts_spell, texts_are_reprinted,
+    parentheses_are_needed, policies_are_reprinted, printed_texts_spell, spelled_elsewhere,
+    texts_are_reprinted,
 };
