@@ -2,6 +2,7 @@
 
 ghost use Rattle.std.specs.Prelude.{◌≡◌, IfOk};
 
+use crate::copied::Copied;
 use sc_tree::{Expr, Filter, Item, SetExpr};
 use sqlite_items::{Boxed, Items};
 use std::alloc::{AllocError, Global};
@@ -26,7 +27,7 @@ fn boxed_set(alloc: Global, set: &SetExpr) -> Result<Boxed<SetExpr>, AllocError>
 
 /// An equal expression.
 #[cycle(copies)]
-pub fn copy_expr(alloc: Global, e: &Expr) -> Result<Expr, AllocError>
+fn copy_expr(alloc: Global, e: &Expr) -> Result<Expr, AllocError>
     ensures { IfOk result (λ copy. copy ≡ e.now) }
 {
     match e {
@@ -149,7 +150,7 @@ fn copy_filters(alloc: Global, filters: &[Filter]) -> Result<Items<Filter>, Allo
 
 /// An equal set.
 #[cycle(copies)]
-pub fn copy_set(alloc: Global, set: &SetExpr) -> Result<SetExpr, AllocError>
+fn copy_set(alloc: Global, set: &SetExpr) -> Result<SetExpr, AllocError>
     ensures { IfOk result (λ copy. copy ≡ set.now) }
 {
     match set {
@@ -203,5 +204,29 @@ pub fn copy_set(alloc: Global, set: &SetExpr) -> Result<SetExpr, AllocError>
             let of = copy_expr(alloc, of)?;
             Ok(SetExpr::MatchS(of, none, name, some, *at))
         }
+    }
+}
+
+impl Copied for Expr {
+    fn copy(&self, alloc: Global) -> Result<Expr, AllocError> {
+        copy_expr(alloc, self)
+    }
+}
+
+impl Copied for SetExpr {
+    fn copy(&self, alloc: Global) -> Result<SetExpr, AllocError> {
+        copy_set(alloc, self)
+    }
+}
+
+impl Copied for Item {
+    fn copy(&self, alloc: Global) -> Result<Item, AllocError> {
+        copy_item(alloc, self)
+    }
+}
+
+impl Copied for Filter {
+    fn copy(&self, alloc: Global) -> Result<Filter, AllocError> {
+        copy_filter(alloc, self)
     }
 }

@@ -3,21 +3,8 @@
 ghost use Rattle.std.specs.Prelude.{◌≡◌, IfOk};
 
 use crate::copied::Copied;
-use crate::exprs::{copy_expr, copy_set};
-use sc_tree::{Expr, Init, Policy, SetExpr};
+use sc_tree::{Init, Policy};
 use std::alloc::{AllocError, Global};
-
-impl Copied for Expr {
-    fn copy(&self, alloc: Global) -> Result<Expr, AllocError> {
-        copy_expr(alloc, self)
-    }
-}
-
-impl Copied for SetExpr {
-    fn copy(&self, alloc: Global) -> Result<SetExpr, AllocError> {
-        copy_set(alloc, self)
-    }
-}
 
 impl Copied for Policy {
     fn copy(&self, alloc: Global) -> Result<Policy, AllocError> {

@@ -1,5 +1,5 @@
 -- What pieces spell, the same pieces elsewhere spell too, offsets aside: how such facts go together.
-use Rattle.std.proofs.Common.{◌≡◌, ◌≤◌, ◌⊎◌, inl, inr, ℕ, suc, arith, Bool, true, List, [], ◌∷◌, ◌++◌, length, refl, sym, ◌∙◌, ap, subst}
+use Rattle.std.proofs.Common.{◌≡◌, ◌≤◌, ◌⊎◌, inl, inr, ℕ, suc, arith, Bool, true, List, [], ◌∷◌, ◌++◌, length, map, refl, sym, ◌∙◌, ap, subst}
 use Rattle.sc_lexer.specs.Lexeme.{Lexeme}
 use Rattle.sc_ast.specs.Pieces.{Piece}
 use Rattle.sc_tree.specs.Forms.{Form, Want, Times, AnyNumber, AtMost, AreWithin, IsToken, ◌then◌, Sign, Word, Upper, Lower, Plain, Negated, Literal, Spells, SpellsEach, admits, nothing, token, both, either, each, ended, mapped, part, within}
@@ -26,6 +26,13 @@ abbrev pub Both : {A B : Type 0} → (A → A → Type 0) → (B → B → Type 
 Both R Q v w = R v.0 w.0 × Q v.1 w.1
 
 -- ---- lists of pieces
+
+pub as_lexemes : (ks ls : List Piece) → map lexeme ks ≡ map lexeme ls → lexemes ks ≡ lexemes ls
+as_lexemes ks ls e = listed ks ∙ e ∙ sym (listed ls)
+  where
+    listed : (ls : List Piece) → lexemes ls ≡ map lexeme ls
+    listed [] = refl
+    listed (l ∷ ls) = ap (λ z. lexeme l ∷ z) (listed ls)
 
 lexemes_append : (a b : List Piece) → lexemes (a ++ b) ≡ lexemes a ++ lexemes b
 lexemes_append [] b = refl
@@ -187,6 +194,7 @@ ended_steady {S} {A} {B} {times} {w} {f} {g} {h} {R} {Q} m last other = record {
   where
     Ends : B → List Piece → Type 0
     Ends y rest = (IsToken w then Spells S g y) rest ⊎ Spells S h y rest
+
     ending : (y : B) (ls ks : List Piece) → lexemes ks ≡ lexemes ls → Ends y ls → Found Ends (Q y) ks
     ending y ls ks same (inl d) =
         let closing : Moves (λ x. IsToken w then Spells S g x) Q = moves_token w (record { go = last.go }) in

@@ -223,10 +223,6 @@ find_steady {S} p =
     mapped_steady {R = Both SameBytes (Same AsFilter)} (λ v w r. find_as w.0 v.0 w.1 v.1 w.0.at v.0.at r.0 r.1)
     (both_steady (token_steady Upper) (behind_steady (behind_steady (between_steady (between_steady (listed_steady (filter_steady p)))))))
 
-pub lambda_steady : {S : Pieces} {A : Type 0} {f : G A} {R : A → A → Type 0}
-    → Steady S f R → Steady S (both (token Lower) (mapped {A = Piece × A} (λ v. v.1) (both (token _) f))) (Both SameBytes R)
-lambda_steady {S} {A} {f} {R} m = both_steady (token_steady Lower) (behind_steady m)
-
 map_steady : {S : Pieces} → Parts S → Steady S map_step AsStep
 unfolding map_step
 map_steady {S} p =

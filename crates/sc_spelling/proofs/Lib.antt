@@ -18,6 +18,7 @@ pub mod ModelForms
 pub mod More
 pub mod Neat
 pub mod Needed
+pub mod OneElsewhere
 pub mod PolicyForms
 pub mod Printed
 pub mod Ranks

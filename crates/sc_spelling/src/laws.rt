@@ -103,3 +103,23 @@ pub fn spelled_elsewhere()
         map lexeme ks ≡ map lexeme ls → IsSpelledAt n script_form x ls →
         (y : Script) × IsSpelledAt n script_form y ks × (stripped_script y ≡ stripped_script x) }
 {}
+
+/// The same tokens at other places spell no other tree, offsets aside, however many items it has
+/// and however deep it nests.
+pub fn one_tree_elsewhere()
+    ensures expressions { (n m : ℕ) (x y : Expr) (ls ks : List Piece) →
+        map lexeme ks ≡ map lexeme ls → IsSpelledAt n (part Expression) x ls →
+        IsSpelledAt m (part Expression) y ks → stripped_expr x ≡ stripped_expr y }
+    ensures sets { (n m : ℕ) (x y : SetExpr) (ls ks : List Piece) →
+        map lexeme ks ≡ map lexeme ls → IsSpelledAt n (part Set) x ls →
+        IsSpelledAt m (part Set) y ks → stripped_set x ≡ stripped_set y }
+    ensures policies { (n m : ℕ) (x y : Policy) (ls ks : List Piece) →
+        map lexeme ks ≡ map lexeme ls → IsSpelledAt n policy_form x ls →
+        IsSpelledAt m policy_form y ks → stripped_policy x ≡ stripped_policy y }
+    ensures specifications { (n m : ℕ) (x y : Spec) (ls ks : List Piece) →
+        map lexeme ks ≡ map lexeme ls → IsSpelledAt n spec_form x ls →
+        IsSpelledAt m spec_form y ks → stripped_spec x ≡ stripped_spec y }
+    ensures scripts { (n m : ℕ) (x y : Script) (ls ks : List Piece) →
+        map lexeme ks ≡ map lexeme ls → IsSpelledAt n script_form x ls →
+        IsSpelledAt m script_form y ks → stripped_script x ≡ stripped_script y }
+{}

@@ -7,6 +7,6 @@
 mod laws;
 
 pub use laws::{
-    parentheses_are_needed, policies_are_reprinted, printed_texts_spell, spelled_elsewhere,
-    texts_are_reprinted,
+    one_tree_elsewhere, parentheses_are_needed, policies_are_reprinted, printed_texts_spell,
+    spelled_elsewhere, texts_are_reprinted,
 };

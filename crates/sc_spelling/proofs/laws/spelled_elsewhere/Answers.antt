@@ -1,31 +1,21 @@
-use Rattle.std.proofs.Common.{◌≡◌, ◌∷◌, [], ℕ, List, ap, map, refl, sym, ◌∙◌}
-use Rattle.sc_ast.specs.Pieces.{Piece}
 use Rattle.sc_tree.specs.Levels.{SpellsPart}
 use Rattle.sc_tree.specs.ExprGrammar.{rule}
-use Rattle.sc_spelling.proofs.Canonical.{lexeme, lexemes}
-use Rattle.sc_spelling.proofs.Elsewhere.{Steady}
+use Rattle.sc_spelling.proofs.Elsewhere.{as_lexemes}
 use Rattle.sc_spelling.proofs.ElsewhereExprs.{Parts, parts}
 use Rattle.sc_spelling.proofs.ElsewhereTexts.{policy_steady, script_steady, spec_steady}
 use Rattle.sc_spelling.proofs.laws.spelled_elsewhere.Goals as goal
 
-listed : (ls : List Piece) → lexemes ls ≡ map lexeme ls
-listed [] = refl
-listed (l ∷ ls) = ap (λ z. lexeme l ∷ z) (listed ls)
-
-same : (ks ls : List Piece) → map lexeme ks ≡ map lexeme ls → lexemes ks ≡ lexemes ls
-same ks ls e = listed ks ∙ e ∙ sym (listed ls)
-
 pub returns-clause-expressions : goal.returns-clause-expressions
-returns-clause-expressions c n x ls ks e d = let p : Parts (SpellsPart rule n) = parts n in let r = p.expr.go x ls ks (same ks ls e) d in (r.value, r.spells, r.is)
+returns-clause-expressions c n x ls ks e d = let p : Parts (SpellsPart rule n) = parts n in let r = p.expr.go x ls ks (as_lexemes ks ls e) d in (r.value, r.spells, r.is)
 
 pub returns-clause-sets : goal.returns-clause-sets
-returns-clause-sets c n x ls ks e d = let p : Parts (SpellsPart rule n) = parts n in let r = p.set.go x ls ks (same ks ls e) d in (r.value, r.spells, r.is)
+returns-clause-sets c n x ls ks e d = let p : Parts (SpellsPart rule n) = parts n in let r = p.set.go x ls ks (as_lexemes ks ls e) d in (r.value, r.spells, r.is)
 
 pub returns-clause-policies : goal.returns-clause-policies
-returns-clause-policies c n x ls ks e d = let r = (policy_steady (parts n)).go x ls ks (same ks ls e) d in (r.value, r.spells, r.is)
+returns-clause-policies c n x ls ks e d = let r = (policy_steady (parts n)).go x ls ks (as_lexemes ks ls e) d in (r.value, r.spells, r.is)
 
 pub returns-clause-specifications : goal.returns-clause-specifications
-returns-clause-specifications c n x ls ks e d = let r = (spec_steady (parts n)).go x ls ks (same ks ls e) d in (r.value, r.spells, r.is)
+returns-clause-specifications c n x ls ks e d = let r = (spec_steady (parts n)).go x ls ks (as_lexemes ks ls e) d in (r.value, r.spells, r.is)
 
 pub returns-clause-scripts : goal.returns-clause-scripts
-returns-clause-scripts c n x ls ks e d = let r = (script_steady (parts n)).go x ls ks (same ks ls e) d in (r.value, r.spells, r.is)
+returns-clause-scripts c n x ls ks e d = let r = (script_steady (parts n)).go x ls ks (as_lexemes ks ls e) d in (r.value, r.spells, r.is)
