@@ -1,7 +1,8 @@
 //! What holds of canonical spellings.
 //!
 //! The canonical spelling of a tree spells that tree, offsets aside, within the limits that any
-//! spelling of it keeps. No spelling of an expression, a set or a policy has fewer tokens.
+//! spelling of it keeps. No spelling of an expression, a set or a policy has fewer tokens. The same
+//! tokens at other places spell the same tree, offsets aside.
 #![tactic(auto)]
 
 mod laws;
