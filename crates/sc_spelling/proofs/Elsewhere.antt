@@ -2,7 +2,7 @@
 use Rattle.std.proofs.Common.{◌≡◌, ◌≤◌, ◌⊎◌, inl, inr, ℕ, suc, arith, Bool, true, List, [], ◌∷◌, ◌++◌, length, map, refl, sym, ◌∙◌, ap, subst}
 use Rattle.sc_lexer.specs.Lexeme.{Lexeme}
 use Rattle.sc_ast.specs.Pieces.{Piece}
-use Rattle.sc_tree.specs.Forms.{Form, Want, Times, AnyNumber, AtMost, AreWithin, IsToken, ◌then◌, Sign, Word, Upper, Lower, Plain, Negated, Literal, Spells, SpellsEach, admits, nothing, token, both, either, each, ended, mapped, part, within}
+use Rattle.sc_tree.specs.Forms.{Form, Want, Times, AnyNumber, AtMost, AreWithin, IsToken, ◌then◌, Sign, Word, Upper, Lower, Plain, Negated, Literal, Spells, SpellsEach, admits, loosened, nothing, token, both, either, each, ended, mapped, part, within}
 use Rattle.sc_tree.specs.ExprGrammar.{Part, G, tree_of}
 use Rattle.sc_spelling.proofs.Canonical.{Same, cut, lexeme, lexemes}
 use Rattle.sc_spelling.proofs.Chains.{SameBytes}
@@ -19,8 +19,13 @@ pub record Moves {A : Type 0} (F : A → List Piece → Type 0) (R : A → A →
   pub go : (x : A) (ls ks : List Piece) → lexemes ks ≡ lexemes ls → F x ls → Found F (R x) ks
 
 -- of forms of the grammar
-pub record Steady (S : Pieces) {A : Type 0} (f : G A) (R : A → A → Type 0) : Type 0 where
+pub record Stays (S : Pieces) {A : Type 0} (f : G A) (R : A → A → Type 0) : Type 0 where
   pub go : (x : A) (ls ks : List Piece) → lexemes ks ≡ lexemes ls → Spells S f x ls → Found (Spells S f) (R x) ks
+
+-- with limits, and without
+pub record Steady (S : Pieces) {A : Type 0} (f : G A) (R : A → A → Type 0) : Type 0 where
+  pub tight : Stays S f R
+  pub loose : Stays S (loosened f) R
 
 abbrev pub Both : {A B : Type 0} → (A → A → Type 0) → (B → B → Type 0) → A × B → A × B → Type 0
 Both R Q v w = R v.0 w.0 × Q v.1 w.1
@@ -134,10 +139,10 @@ same_length R (x ∷ xs) (y ∷ ys) (r, more) = ap suc (same_length R xs ys more
 as_many : {A : Type 0} (times : Times) (R : A → A → Type 0) (xs ys : List A) → Same R xs ys → AreWithin times (length xs) → AreWithin times (length ys)
 as_many times R xs ys r h = subst (AreWithin times) (sym (same_length R xs ys r)) h
 
--- ---- forms
+-- ---- forms, with the limits that they have
 
-pub nothing_steady : {S : Pieces} {A : Type 0} {R : A → A → Type 0} (x : A) → R x x → Steady S (nothing x) R
-nothing_steady {S} {A} {R} x r = record { go = go }
+nothing_stays : {S : Pieces} {A : Type 0} {R : A → A → Type 0} (x : A) → R x x → Stays S (nothing x) R
+nothing_stays {S} {A} {R} x r = record { go = go }
   where
     go : (y : A) (ls ks : List Piece) → lexemes ks ≡ lexemes ls → Spells S (nothing x) y ls → Found (Spells S (nothing x)) (R y) ks
     go y ls [] same (is, nil) = record { value = x; is = subst (λ z. R z x) (sym is) r; spells = (refl, refl) }
@@ -146,16 +151,16 @@ nothing_steady {S} {A} {R} x r = record { go = go }
         no : lexeme k ∷ lexemes ks ≡ [] → ⊥
         no e = cc
 
-pub token_steady : {S : Pieces} (w : Want) → Steady S (token w) SameBytes
-token_steady {S} w = record {
+token_stays : {S : Pieces} (w : Want) → Stays S (token w) SameBytes
+token_stays {S} w = record {
   go = λ l ls ks same (is, may).
       let one = single l ks (same ∙ ap lexemes is) in
       record { value = one.piece; is = bytes_as one.piece l one.same; spells = (one.is, admits_as w one.piece l one.same ∙ may) };
 }
 
-pub both_steady : {S : Pieces} {A B : Type 0} {f : G A} {g : G B} {R : A → A → Type 0} {Q : B → B → Type 0}
-    → Steady S f R → Steady S g Q → Steady S (both f g) (Both R Q)
-both_steady {S} {A} {B} {f} {g} {R} {Q} one two = record {
+both_stays : {S : Pieces} {A B : Type 0} {f : G A} {g : G B} {R : A → A → Type 0} {Q : B → B → Type 0}
+    → Stays S f R → Stays S g Q → Stays S (both f g) (Both R Q)
+both_stays {S} {A} {B} {f} {g} {R} {Q} one two = record {
   go = λ v ls ks same (front, back, glue, a, b).
       let h = halves front back ls ks glue same in
       let x = one.go v.0 front h.first h.first_is a in
@@ -163,23 +168,23 @@ both_steady {S} {A} {B} {f} {g} {R} {Q} one two = record {
       record { value = (x.value, y.value); is = (x.is, y.is); spells = (h.first, h.second, h.glue, x.spells, y.spells) };
 }
 
-pub either_steady : {S : Pieces} {A : Type 0} {f g : G A} {R : A → A → Type 0} → Steady S f R → Steady S g R → Steady S (either f g) R
-either_steady {S} {A} {f} {g} {R} one two = record { go = go }
+either_stays : {S : Pieces} {A : Type 0} {f g : G A} {R : A → A → Type 0} → Stays S f R → Stays S g R → Stays S (either f g) R
+either_stays {S} {A} {f} {g} {R} one two = record { go = go }
   where
     go : (x : A) (ls ks : List Piece) → lexemes ks ≡ lexemes ls → Spells S (either f g) x ls → Found (Spells S (either f g)) (R x) ks
     go x ls ks same (inl d) = let r = one.go x ls ks same d in record { value = r.value; is = r.is; spells = inl r.spells }
     go x ls ks same (inr d) = let r = two.go x ls ks same d in record { value = r.value; is = r.is; spells = inr r.spells }
 
-pub each_steady : {S : Pieces} {A : Type 0} {times : Times} {f : G A} {R : A → A → Type 0} → Steady S f R → Steady S (each times f) (Same R)
-each_steady {S} {A} {times} {f} {R} m = record {
+each_stays : {S : Pieces} {A : Type 0} {times : Times} {f : G A} {R : A → A → Type 0} → Stays S f R → Stays S (each times f) (Same R)
+each_stays {S} {A} {times} {f} {R} m = record {
   go = λ xs ls ks same (d, few).
       let r = moves_each (Spells S f) R (record { go = m.go }) xs ls ks same d in
       record { value = r.value; is = r.is; spells = (r.spells, as_many times R xs r.value r.is few) };
 }
 
-pub ended_steady : {S : Pieces} {A B : Type 0} {times : Times} {w : Want} {f : G A} {g h : G B} {R : A → A → Type 0} {Q : B → B → Type 0}
-    → Steady S f R → Steady S g Q → Steady S h Q → Steady S (ended times w f g h) (Both (Same R) Q)
-ended_steady {S} {A} {B} {times} {w} {f} {g} {h} {R} {Q} m last other = record {
+ended_stays : {S : Pieces} {A B : Type 0} {times : Times} {w : Want} {f : G A} {g h : G B} {R : A → A → Type 0} {Q : B → B → Type 0}
+    → Stays S f R → Stays S g Q → Stays S h Q → Stays S (ended times w f g h) (Both (Same R) Q)
+ended_stays {S} {A} {B} {times} {w} {f} {g} {h} {R} {Q} m last other = record {
   go = λ v ls ks same ((front, back, glue, items, end), few).
       let parts = halves front back ls ks glue same in
       let item : Moves (λ x. IsToken w then Spells S f x) R = moves_token w (record { go = m.go }) in
@@ -202,9 +207,9 @@ ended_steady {S} {A} {B} {times} {w} {f} {g} {h} {R} {Q} m last other = record {
         record { value = r.value; is = r.is; spells = inl r.spells }
     ending y ls ks same (inr d) = let r = other.go y ls ks same d in record { value = r.value; is = r.is; spells = inr r.spells }
 
-pub mapped_steady : {S : Pieces} {A B : Type 0} {make : A → B} {f : G A} {R : A → A → Type 0} {Q : B → B → Type 0}
-    → ((v w : A) → R v w → Q (make v) (make w)) → Steady S f R → Steady S (mapped make f) Q
-mapped_steady {S} {A} {B} {make} {f} {R} {Q} keeps m = record {
+mapped_stays : {S : Pieces} {A B : Type 0} {make : A → B} {f : G A} {R : A → A → Type 0} {Q : B → B → Type 0}
+    → ((v w : A) → R v w → Q (make v) (make w)) → Stays S f R → Stays S (mapped make f) Q
+mapped_stays {S} {A} {B} {make} {f} {R} {Q} keeps m = record {
   go = λ y ls ks same (x, is, d).
       let r = m.go x ls ks same d in
       record {
@@ -214,13 +219,45 @@ mapped_steady {S} {A} {B} {make} {f} {R} {Q} keeps m = record {
       };
 }
 
-pub within_steady : {S : Pieces} {A : Type 0} {most : ℕ} {f : G A} {R : A → A → Type 0} → Steady S f R → Steady S (within most f) R
-within_steady {S} {A} {most} {f} {R} m = record {
+within_stays : {S : Pieces} {A : Type 0} {most : ℕ} {f : G A} {R : A → A → Type 0} → Stays S f R → Stays S (within most f) R
+within_stays {S} {A} {most} {f} {R} m = record {
   go = λ x ls ks same (d, few).
       let r = m.go x ls ks same d in
       let long : length ks ≡ length ls = as_long ks ls same in
       record { value = r.value; is = r.is; spells = (r.spells, omega arith) };
 }
+
+-- ---- forms, with limits and without
+
+pub part_steady : {S : Pieces} {p : Part} {R : tree_of p → tree_of p → Type 0} → Stays S (part p) R → Steady S (part p) R
+part_steady {S} {p} {R} m = record { tight = m; loose = m }
+
+pub nothing_steady : {S : Pieces} {A : Type 0} {R : A → A → Type 0} (x : A) → R x x → Steady S (nothing x) R
+nothing_steady {S} {A} {R} x r = record { tight = nothing_stays x r; loose = nothing_stays x r }
+
+pub token_steady : {S : Pieces} (w : Want) → Steady S (token w) SameBytes
+token_steady {S} w = record { tight = token_stays w; loose = token_stays w }
+
+pub both_steady : {S : Pieces} {A B : Type 0} {f : G A} {g : G B} {R : A → A → Type 0} {Q : B → B → Type 0}
+    → Steady S f R → Steady S g Q → Steady S (both f g) (Both R Q)
+both_steady one two = record { tight = both_stays one.tight two.tight; loose = both_stays one.loose two.loose }
+
+pub either_steady : {S : Pieces} {A : Type 0} {f g : G A} {R : A → A → Type 0} → Steady S f R → Steady S g R → Steady S (either f g) R
+either_steady one two = record { tight = either_stays one.tight two.tight; loose = either_stays one.loose two.loose }
+
+pub each_steady : {S : Pieces} {A : Type 0} {times : Times} {f : G A} {R : A → A → Type 0} → Steady S f R → Steady S (each times f) (Same R)
+each_steady m = record { tight = each_stays m.tight; loose = each_stays m.loose }
+
+pub ended_steady : {S : Pieces} {A B : Type 0} {times : Times} {w : Want} {f : G A} {g h : G B} {R : A → A → Type 0} {Q : B → B → Type 0}
+    → Steady S f R → Steady S g Q → Steady S h Q → Steady S (ended times w f g h) (Both (Same R) Q)
+ended_steady m last other = record { tight = ended_stays m.tight last.tight other.tight; loose = ended_stays m.loose last.loose other.loose }
+
+pub mapped_steady : {S : Pieces} {A B : Type 0} {make : A → B} {f : G A} {R : A → A → Type 0} {Q : B → B → Type 0}
+    → ((v w : A) → R v w → Q (make v) (make w)) → Steady S f R → Steady S (mapped make f) Q
+mapped_steady keeps m = record { tight = mapped_stays keeps m.tight; loose = mapped_stays keeps m.loose }
+
+pub within_steady : {S : Pieces} {A : Type 0} {most : ℕ} {f : G A} {R : A → A → Type 0} → Steady S f R → Steady S (within most f) R
+within_steady m = record { tight = within_stays m.tight; loose = m.loose }
 
 -- ---- forms between and behind signs
 

@@ -22,7 +22,7 @@ use Rattle.sc_tree.specs.Stripped.{stripped_expr, stripped_item, stripped_set, s
 use Rattle.sc_spelling.proofs.Canonical.{Same, lexemes}
 use Rattle.sc_spelling.proofs.Chains.{SameBytes, fields_as, steps_as}
 use Rattle.sc_spelling.proofs.Compounds.{and_as, cmp_as, member_as, or_as}
-use Rattle.sc_spelling.proofs.Elsewhere.{Both, Found, Steady, behind_steady, between_steady, both_steady, each_steady, either_steady, ended_steady, mapped_steady, nothing_steady, token_steady}
+use Rattle.sc_spelling.proofs.Elsewhere.{Both, Found, Steady, behind_steady, between_steady, both_steady, each_steady, either_steady, ended_steady, mapped_steady, nothing_steady, part_steady, token_steady}
 use Rattle.sc_spelling.proofs.ExprForms.{not_as, num_as, some_as, str_as, var_as}
 use Rattle.sc_spelling.proofs.ExprRule as expr
 use Rattle.sc_spelling.proofs.Layers as layer
@@ -304,11 +304,14 @@ set_steady {S} p = either_steady (if_set_steady p) (either_steady (match_set_ste
 -- ---- however deep they nest
 
 pub parts : (n : ℕ) → Parts (SpellsPart rule n)
-parts zero = record { expr = record { go = λ x ls ks same d. absurd d }; set = record { go = λ x ls ks same d. absurd d } }
+parts zero = record {
+  expr = part_steady {p = Expression} {R = AsExpr} (record { go = λ x ls ks same d. absurd d });
+  set = part_steady {p = Set} {R = AsSet} (record { go = λ x ls ks same d. absurd d });
+}
 parts (suc n) =
-    let e = expression_steady (parts n) in
-    let t = set_steady (parts n) in
+    let e = (expression_steady (parts n)).tight in
+    let t = (set_steady (parts n)).tight in
     record {
-      expr = record { go = λ x ls ks same d. (let r = e.go x ls ks same d in record { value = r.value; is = r.is; spells = r.spells }) };
-      set = record { go = λ x ls ks same d. (let r = t.go x ls ks same d in record { value = r.value; is = r.is; spells = r.spells }) };
+      expr = part_steady {p = Expression} {R = AsExpr} (record { go = λ x ls ks same d. (let r = e.go x ls ks same d in record { value = r.value; is = r.is; spells = r.spells }) });
+      set = part_steady {p = Set} {R = AsSet} (record { go = λ x ls ks same d. (let r = t.go x ls ks same d in record { value = r.value; is = r.is; spells = r.spells }) });
     }

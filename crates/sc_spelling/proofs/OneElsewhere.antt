@@ -34,10 +34,10 @@ one {A} f e same n m ls s t hs ht =
     got_one (sym (a.complete s ls [] (more f e same n (n + m) (omega arith) ls s hs) tt) ∙ a.complete t ls [] (more f e same m (n + m) (omega arith) ls t ht) tt)
 
 pub one_elsewhere : {A : Type 0} (f : G A) (stripped : A → A) → fine first_of goes_on (loosened f) ≡ true → loosened (loosened f) ≡ loosened f → (n m : ℕ)
-    → Steady (SpellsPart rule n) (loosened f) (λ x y. stripped y ≡ stripped x) → (x y : A) (ls ks : List Piece) → lexemes ks ≡ lexemes ls
+    → Steady (SpellsPart rule n) f (λ x y. stripped y ≡ stripped x) → (x y : A) (ls ks : List Piece) → lexemes ks ≡ lexemes ls
     → IsSpelledAt n f x ls → IsSpelledAt m f y ks → stripped x ≡ stripped y
 one_elsewhere {A} f stripped e same n m steady x y ls ks alike hx hy =
-    let there = steady.go x ls ks alike hx in
+    let there = steady.loose.go x ls ks alike hx in
     sym there.is ∙ ap stripped (one f e same n m ks there.value y there.spells hy)
 
 pub policy_fine : fine first_of goes_on (loosened g.policy_form) ≡ true

@@ -18,7 +18,8 @@ ghost use Rattle.sc_print.specs.Commands.{spelled_script};
 ghost use Rattle.sc_print.specs.Exprs.{spelled_expr, spelled_set};
 ghost use Rattle.sc_print.specs.Marks.{lexemes_of_marks, text_of_marks};
 ghost use Rattle.sc_print.specs.Models.{spelled_policy, spelled_spec};
-ghost use Rattle.sc_spelling.specs.Reprinted.{AreOf, AreTokens, IsPrinted, IsReprinted, lexeme};
+ghost use Rattle.sc_spelling.specs.Reprinted.{AreOf, AreTokens, HaveSameTokens};
+ghost use Rattle.sc_spelling.specs.Reprinted.{IsPrinted, IsReprinted, lexeme};
 
 /// The canonical text of a policy, a specification or a script that a text spells within the limits
 /// is a text that spells it again, offsets aside, within the limits.
@@ -122,4 +123,15 @@ pub fn one_tree_elsewhere()
     ensures scripts { (n m : ℕ) (x y : Script) (ls ks : List Piece) →
         map lexeme ks ≡ map lexeme ls → IsSpelledAt n script_form x ls →
         IsSpelledAt m script_form y ks → stripped_script x ≡ stripped_script y }
+{}
+
+/// A text that has the tokens of another, with other blanks, line ends and comments, spells the
+/// tree that the other spells, offsets aside, within the same limits.
+pub fn layout_means_nothing()
+    ensures policies { (text other : List ℕ) (x : Policy) → HaveSameTokens text other →
+        IsTextOf policy_form text x → IsPrinted policy_form stripped_policy x other }
+    ensures specifications { (text other : List ℕ) (x : Spec) → HaveSameTokens text other →
+        IsSpecText text x → IsPrinted spec_form stripped_spec x other }
+    ensures scripts { (text other : List ℕ) (x : Script) → HaveSameTokens text other →
+        IsScriptText text x → IsPrinted script_form stripped_script x other }
 {}

@@ -8,6 +8,6 @@
 mod laws;
 
 pub use laws::{
-    one_tree_elsewhere, parentheses_are_needed, policies_are_reprinted, printed_texts_spell,
-    spelled_elsewhere, texts_are_reprinted,
+    layout_means_nothing, one_tree_elsewhere, parentheses_are_needed, policies_are_reprinted,
+    printed_texts_spell, spelled_elsewhere, texts_are_reprinted,
 };
