@@ -42,11 +42,9 @@ fn time_spec(rt: &HostRuntime, bytes: &[u8]) -> io::Result<ExitCode>
     requires { length bytes.now < 2 ^ 32 }
 {
     let start = Instant::now(rt)?;
-    let read = parse_spec(rt.alloc(), bytes);
-    say_read(rt, start)?;
-    match read {
-        Ok(spec) => time_printed_spec(rt, &spec),
-        Err(refusal) => say_refused(rt, refusal),
+    match parse_spec(rt.alloc(), bytes) {
+        Ok(spec) => time_printed_spec(rt, start, &spec),
+        Err(refusal) => say_refused(rt, start, refusal),
     }
 }
 
@@ -55,21 +53,23 @@ fn time_script(rt: &HostRuntime, bytes: &[u8]) -> io::Result<ExitCode>
     requires { length bytes.now < 2 ^ 32 }
 {
     let start = Instant::now(rt)?;
-    let read = parse_script(rt.alloc(), bytes);
-    say_read(rt, start)?;
-    match read {
-        Ok(script) => time_printed_script(rt, &script),
-        Err(refusal) => say_refused(rt, refusal),
+    match parse_script(rt.alloc(), bytes) {
+        Ok(script) => time_printed_script(rt, start, &script),
+        Err(refusal) => say_refused(rt, start, refusal),
     }
 }
 
-fn time_printed_spec(rt: &HostRuntime, spec: &Spec) -> io::Result<ExitCode> {
+/// Prints a specification that was read since the start.
+fn time_printed_spec(rt: &HostRuntime, start: Instant, spec: &Spec) -> io::Result<ExitCode> {
+    say_read(rt, start)?;
     let start = Instant::now(rt)?;
     let text = print_spec(spec, rt.alloc())?;
     say_printed(rt, start, text.len())
 }
 
-fn time_printed_script(rt: &HostRuntime, script: &Script) -> io::Result<ExitCode> {
+/// Prints a script that was read since the start.
+fn time_printed_script(rt: &HostRuntime, start: Instant, script: &Script) -> io::Result<ExitCode> {
+    say_read(rt, start)?;
     let start = Instant::now(rt)?;
     let text = print_script(script, rt.alloc())?;
     say_printed(rt, start, text.len())
@@ -90,8 +90,9 @@ fn say_printed(rt: &HostRuntime, start: Instant, count: usize) -> io::Result<Exi
     Ok(ExitCode::SUCCESS)
 }
 
-/// Says why the text is refused.
-fn say_refused(rt: &HostRuntime, refusal: SyntaxErr) -> io::Result<ExitCode> {
+/// Says why the text is refused, and how long that took.
+fn say_refused(rt: &HostRuntime, start: Instant, refusal: SyntaxErr) -> io::Result<ExitCode> {
+    say_read(rt, start)?;
     match refusal {
         SyntaxErr::OutOfMemory => Err(ErrorKind::OutOfMemory.into()),
         refusal => {
