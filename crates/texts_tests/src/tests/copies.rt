@@ -40,7 +40,8 @@ fn a_specification_is_copied(rt: HostRuntime) -> Result<(), Fail> {
 
 #[test]
 fn a_script_is_copied(rt: HostRuntime) -> Result<(), Fail> {
-    let text = b"CreateModel(model M {create: none, delete: none, a: Text {read: public, write: none}})
+    let text =
+        b"CreateModel(model M {create: none, delete: none, a: Text {read: public, write: none}})
         DeleteModel(M) AddStatic(A) RemoveStatic(A) AddPrincipal(M)
         M::AddField(b: Set(Id(M)) {read: public, write: none}, x -> [x])
         M::AddField(c: Int {read: public, write: none}, x -> if true && 1 == 2 then 1 else 2)
