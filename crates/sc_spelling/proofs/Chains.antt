@@ -154,7 +154,7 @@ found_held S know x ls good (v, is, (p, q, g, first, more)) =
 abbrev pub SameBytes : Piece → Piece → Type 0
 SameBytes l m = m.bytes ≡ l.bytes
 
-fields_as : (fs gs : List Piece) (x y : Expr) → AsExpr x y → Same SameBytes fs gs → AsExpr (fold get x fs) (fold get y gs)
+pub fields_as : (fs gs : List Piece) (x y : Expr) → AsExpr x y → Same SameBytes fs gs → AsExpr (fold get x fs) (fold get y gs)
 fields_as [] [] x y h r = h
 fields_as [] (g ∷ gs) x y h r = absurd r
 fields_as (f ∷ fs) [] x y h r = absurd r

@@ -206,7 +206,7 @@ p_applied : {A : Type 0} (S : Pieces) (name : List ℕ) (f : G A) (R : A → A �
     → Prints S (behind (type_word name) (parens f)) R (λ x. named_word name (m x))
 p_applied S name f R m h one = p_behind S (Word k.Upper name) (type name) (parens f) R (λ x. enclosed (m x)) h (p_parens S f R m one)
 
-add_as : (n l : Piece) (w v : Added) → n.bytes ≡ l.bytes → AsAdded v w
+pub add_as : (n l : Piece) (w v : Added) → n.bytes ≡ l.bytes → AsAdded v w
     → AsTail (λ model. command.AddField (named model) (field_of l v.0.0 (v.0.1, v.0.2)) (named v.1) v.2 model.at)
     (λ model. command.AddField (named model) (field_of n w.0.0 (w.0.1, w.0.2)) (named w.1) w.2 model.at)
 add_as n l w v e r i j h =
@@ -246,7 +246,7 @@ p_add S know =
     (p_behind S (Sign k.Colon) colon (either added_set added_plain) AsAdded added_lexemes (colon_token S)
     (p_either S added_set added_plain AsAdded added_lexemes (p_added_set S know) (p_added_plain S know)))))
 
-remove_as : (n l : Piece) → n.bytes ≡ l.bytes → AsTail (λ model. command.RemoveField (named model) (named l) model.at) (λ model. command.RemoveField (named model) (named n) model.at)
+pub remove_as : (n l : Piece) → n.bytes ≡ l.bytes → AsTail (λ model. command.RemoveField (named model) (named l) model.at) (λ model. command.RemoveField (named model) (named n) model.at)
 remove_as n l e i j h =
     ap (λ z. command.RemoveField z (stripped_name (named n)) 0) (name_as j i h) ∙ ap (λ z. command.RemoveField (stripped_name (named i)) z 0) (name_as n l e)
 
@@ -260,7 +260,7 @@ p_remove S =
 abbrev pub Given : Type 0
 Given = Option Policy × Option Policy
 
-update_as : (n l : Piece) (w v : Given) → n.bytes ≡ l.bytes → AsBoth v w
+pub update_as : (n l : Piece) (w v : Given) → n.bytes ≡ l.bytes → AsBoth v w
     → AsTail (λ model. command.UpdateFieldPolicy (named model) (named l) v.0 v.1 model.at) (λ model. command.UpdateFieldPolicy (named model) (named n) w.0 w.1 model.at)
 update_as n l w v e r i j h =
     ap (λ z. command.UpdateFieldPolicy z (stripped_name (named n)) (stripped_right w.0) (stripped_right w.1) 0) (name_as j i h)
@@ -287,7 +287,7 @@ p_update S know =
     (p_both S (token Lower) (behind (sign k.Comma) field_right_list) (λ l m. m.bytes ≡ l.bytes) AsBoth (λ l. word l.bytes ∷ []) (λ v. comma ∷ field_given v) (p_lower S)
     (p_behind S (Sign k.Comma) comma field_right_list AsBoth field_given (comma_token S) (p_field_given S know))))
 
-weaken_as : (n l : Piece) (w v : Given) (q p : Reason) → n.bytes ≡ l.bytes → AsBoth v w → AsReason p q
+pub weaken_as : (n l : Piece) (w v : Given) (q p : Reason) → n.bytes ≡ l.bytes → AsBoth v w → AsReason p q
     → AsTail (λ model. command.WeakenFieldPolicy (named model) (named l) v.0 v.1 p model.at) (λ model. command.WeakenFieldPolicy (named model) (named n) w.0 w.1 q model.at)
 weaken_as n l w v q p e r f i j h =
     ap (λ z. command.WeakenFieldPolicy z (stripped_name (named n)) (stripped_right w.0) (stripped_right w.1) (stripped_reason q) 0) (name_as j i h)
@@ -323,7 +323,7 @@ p_weaken S know =
     (p_behind S (Sign k.Comma) comma field_right_list AsBoth field_given (comma_token S) (p_field_given S know))
     (p_behind S (Sign k.Comma) comma reason_form AsReason reason_lexemes (comma_token S) (p_reason S)))))
 
-update_model_as : (w v : Given) → AsBoth v w → AsTail (λ model. command.UpdatePolicy (named model) v.0 v.1 model.at) (λ model. command.UpdatePolicy (named model) w.0 w.1 model.at)
+pub update_model_as : (w v : Given) → AsBoth v w → AsTail (λ model. command.UpdatePolicy (named model) v.0 v.1 model.at) (λ model. command.UpdatePolicy (named model) w.0 w.1 model.at)
 update_model_as w v r i j h =
     ap (λ z. command.UpdatePolicy z (stripped_right w.0) (stripped_right w.1) 0) (name_as j i h)
     ∙ ap (λ z. command.UpdatePolicy (stripped_name (named i)) z (stripped_right w.1) 0) r.0 ∙ ap (λ z. command.UpdatePolicy (stripped_name (named i)) (stripped_right v.0) z 0) r.1
@@ -337,7 +337,7 @@ p_update_model S know =
     (lexemes_append (print.rights (codes "create") (codes "delete") v.0 v.1) print.close ∙ ap (λ (z : List Lexeme). z ++ close) (given_marks (codes "create") (codes "delete") v)))
     (p_applied S (codes "UpdatePolicy") model_right_list AsBoth model_given (upper_word S (codes "UpdatePolicy") refl refl refl) (p_model_given S know))
 
-weaken_model_as : (w v : Given) (q p : Reason) → AsBoth v w → AsReason p q
+pub weaken_model_as : (w v : Given) (q p : Reason) → AsBoth v w → AsReason p q
     → AsTail (λ model. command.WeakenPolicy (named model) v.0 v.1 p model.at) (λ model. command.WeakenPolicy (named model) w.0 w.1 q model.at)
 weaken_model_as w v q p r f i j h =
     ap (λ z. command.WeakenPolicy z (stripped_right w.0) (stripped_right w.1) (stripped_reason q) 0) (name_as j i h)

@@ -47,7 +47,7 @@ cmp_size S o ls (inr (inr (inr (inl (l, is, (g, a)))))) = size_one ls l g
 cmp_size S o ls (inr (inr (inr (inr (inl (l, is, (g, a))))))) = size_one ls l g
 cmp_size S o ls (inr (inr (inr (inr (inr (l, is, (g, a))))))) = size_one ls l g
 
-cmp_as : (p o : CmpOp) (y x w v : Expr) (a b : ℕ) → p ≡ o → AsExpr x y → AsExpr v w → AsExpr (e.Cmp o x v b) (e.Cmp p y w a)
+pub cmp_as : (p o : CmpOp) (y x w v : Expr) (a b : ℕ) → p ≡ o → AsExpr x y → AsExpr v w → AsExpr (e.Cmp o x v b) (e.Cmp p y w a)
 cmp_as p o y x w v a b f r t =
     layer.Cmp_stripped p y w a ∙ ap (λ z. e.Cmp z (stripped_expr y) (stripped_expr w) 0) f ∙ ap (λ z. e.Cmp o z (stripped_expr w) 0) r
     ∙ ap (λ z. e.Cmp o (stripped_expr x) z 0) t ∙ sym (layer.Cmp_stripped o x v b)
@@ -76,7 +76,7 @@ container_read S know x ls good (inr (v, is, d)) =
     subst (λ z. Canonical (AsSet z) (Spells S container) (lexemes_of_marks (container_marks (spelled_set z))) (length ls)) (sym is)
     (c.rewritten refl i.fewer (firm_container S v.1.0 (length i.inner) known.0 known.1))
 
-member_as : (y x : Expr) (u t : SetExpr) (a b : ℕ) → AsExpr x y → AsSet t u → AsExpr (e.Member x t b) (e.Member y u a)
+pub member_as : (y x : Expr) (u t : SetExpr) (a b : ℕ) → AsExpr x y → AsSet t u → AsExpr (e.Member x t b) (e.Member y u a)
 member_as y x u t a b r f =
     layer.Member_stripped y u a ∙ ap (λ z. e.Member z (stripped_set u) 0) r ∙ ap (λ z. e.Member (stripped_expr x) z 0) f ∙ sym (layer.Member_stripped x t b)
 
@@ -117,7 +117,7 @@ compared_held S know x ls good (v, is, (p, q, g, left, inr (inr (made, none)))) 
 
 -- ---- conjunctions
 
-and_as : (y x w v : Expr) (a b : ℕ) → AsExpr x y → AsExpr v w → AsExpr (e.And x v b) (e.And y w a)
+pub and_as : (y x w v : Expr) (a b : ℕ) → AsExpr x y → AsExpr v w → AsExpr (e.And x v b) (e.And y w a)
 and_as y x w v a b r t =
     layer.And_stripped y w a ∙ ap (λ z. e.And z (stripped_expr w) 0) r ∙ ap (λ z. e.And (stripped_expr x) z 0) t ∙ sym (layer.And_stripped x v b)
 
@@ -167,7 +167,7 @@ conjunction_held S know x ls good (v, is, (p, q, g, first, (rest, t))) =
 
 -- ---- disjunctions
 
-or_as : (y x w v : Expr) (a b : ℕ) → AsExpr x y → AsExpr v w → AsExpr (e.Or x v b) (e.Or y w a)
+pub or_as : (y x w v : Expr) (a b : ℕ) → AsExpr x y → AsExpr v w → AsExpr (e.Or x v b) (e.Or y w a)
 or_as y x w v a b r t =
     layer.Or_stripped y w a ∙ ap (λ z. e.Or z (stripped_expr w) 0) r ∙ ap (λ z. e.Or (stripped_expr x) z 0) t ∙ sym (layer.Or_stripped x v b)
 

@@ -152,7 +152,7 @@ flag_held S x ls (inr (l, is, (g, a))) =
     (moved (λ m. e.Flag false m.at) (λ m r. layer.Flag_stripped false m.at ∙ sym (layer.Flag_stripped false l.at)) (λ m ks d. inl (inr (m, refl, d)))
     (lower_word S (codes "false") refl refl refl))))
 
-num_as : (v : ℕ → ℤ) (m l : Piece) → m.bytes ≡ l.bytes → (a b : ℕ) → AsExpr (e.Num (v (digits_value 10 l.bytes)) b) (e.Num (v (digits_value 10 m.bytes)) a)
+pub num_as : (v : ℕ → ℤ) (m l : Piece) → m.bytes ≡ l.bytes → (a b : ℕ) → AsExpr (e.Num (v (digits_value 10 l.bytes)) b) (e.Num (v (digits_value 10 m.bytes)) a)
 num_as v m l r a b =
     layer.Num_stripped (v (digits_value 10 m.bytes)) a ∙ ap (λ z. e.Num (v (digits_value 10 z)) 0) r ∙ sym (layer.Num_stripped (v (digits_value 10 l.bytes)) b)
 
@@ -184,7 +184,7 @@ number_held S x ls good (inr (v, is, (p, q, g, (po, oa), (ql, la)))) =
     (moved (λ m. e.Num (minus (digits_value 10 m.1.bytes)) m.0.at) (λ m r. num_as minus m.1 v.1 r.1 m.0.at v.0.at) (λ m ks d. inr (inl (inr (m, refl, d))))
     (c.both (minus_token S) (negated_token S v.1 goodq la)))))
 
-str_as : (m l : Piece) → literal_value m.bytes ≡ literal_value l.bytes → AsExpr (e.Str (literal_value l.bytes) l.at) (e.Str (literal_value m.bytes) m.at)
+pub str_as : (m l : Piece) → literal_value m.bytes ≡ literal_value l.bytes → AsExpr (e.Str (literal_value l.bytes) l.at) (e.Str (literal_value m.bytes) m.at)
 str_as m l r = layer.Str_stripped (literal_value m.bytes) m.at ∙ ap (λ z. e.Str z 0) r ∙ sym (layer.Str_stripped (literal_value l.bytes) l.at)
 
 literal_held : (S : Pieces) (x : Expr) (ls : List Piece) → AreGood ls → Spells S literal x ls → Held S 5 x (length ls)
@@ -197,7 +197,7 @@ literal_held S x ls good (l, is, (g, a)) =
     (moved (λ m. e.Str (literal_value m.bytes) m.at) (λ m r. str_as m l r) (λ m ks d. inr (inr (inl (m, refl, d))))
     (literal_token S l (good_one ls l g good) a))))
 
-some_as : (y x : Expr) (a b : ℕ) → AsExpr x y → AsExpr (e.SomeLit x b) (e.SomeLit y a)
+pub some_as : (y x : Expr) (a b : ℕ) → AsExpr x y → AsExpr (e.SomeLit x b) (e.SomeLit y a)
 some_as y x a b r = layer.SomeLit_stripped y a ∙ ap (λ z. e.SomeLit z 0) r ∙ sym (layer.SomeLit_stripped x b)
 
 option_held : (S : Pieces) → Knows S → (x : Expr) (ls : List Piece) → AreGood ls → Spells S option x ls → Held S 5 x (length ls)
@@ -231,7 +231,7 @@ atom_held S know x ls good (inr (inr (inl h))) = literal_held S x ls good h
 atom_held S know x ls good (inr (inr (inr (inl h)))) = option_held S know x ls good h
 atom_held S know x ls good (inr (inr (inr (inr h)))) = looser S 5 6 x (length ls) (omega arith) (path_held S know x ls good h)
 
-not_as : (y x : Expr) (a b : ℕ) → AsExpr x y → AsExpr (e.Not x b) (e.Not y a)
+pub not_as : (y x : Expr) (a b : ℕ) → AsExpr x y → AsExpr (e.Not x b) (e.Not y a)
 not_as y x a b r = layer.Not_stripped y a ∙ ap (λ z. e.Not z 0) r ∙ sym (layer.Not_stripped x b)
 
 pub unary_held : (S : Pieces) → Knows S → (x : Expr) (ls : List Piece) → AreGood ls → Spells S unary x ls → Held S 4 x (length ls)

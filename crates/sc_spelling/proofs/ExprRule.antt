@@ -18,12 +18,12 @@ use Rattle.sc_spelling.proofs.Choices.{case_parts, cases_c, cases_lexemes, choic
 use Rattle.sc_spelling.proofs.Compounds.{disjunction_held}
 use Rattle.sc_spelling.proofs.Tokens.{Pieces}
 
-if_as : (y x w v u t : Expr) (a b : ℕ) → AsExpr x y → AsExpr v w → AsExpr t u → AsExpr (e.IfE x v t b) (e.IfE y w u a)
+pub if_as : (y x w v u t : Expr) (a b : ℕ) → AsExpr x y → AsExpr v w → AsExpr t u → AsExpr (e.IfE x v t b) (e.IfE y w u a)
 if_as y x w v u t a b f g h =
     layer.IfE_stripped y w u a ∙ ap (λ z. e.IfE z (stripped_expr w) (stripped_expr u) 0) f ∙ ap (λ z. e.IfE (stripped_expr x) z (stripped_expr u) 0) g
     ∙ ap (λ z. e.IfE (stripped_expr x) (stripped_expr v) z 0) h ∙ sym (layer.IfE_stripped x v t b)
 
-match_as : (y x w v u t : Expr) (m l : Piece) (a b : ℕ) → AsExpr x y → AsExpr v w → m.bytes ≡ l.bytes → AsExpr t u
+pub match_as : (y x w v u t : Expr) (m l : Piece) (a b : ℕ) → AsExpr x y → AsExpr v w → m.bytes ≡ l.bytes → AsExpr t u
     → AsExpr (e.MatchE x v (named l) t b) (e.MatchE y w (named m) u a)
 match_as y x w v u t m l a b f g n h =
     layer.MatchE_stripped y w (named m) u a ∙ ap (λ z. e.MatchE z (stripped_expr w) (stripped_name (named m)) (stripped_expr u) 0) f

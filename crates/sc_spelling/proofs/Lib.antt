@@ -5,6 +5,9 @@ pub mod Canonical
 pub mod Chains
 pub mod Choices
 pub mod CommandForms
+pub mod Elsewhere
+pub mod ElsewhereExprs
+pub mod ElsewhereTexts
 pub mod Compounds
 pub mod ExprForms
 pub mod ExprRule
@@ -15,6 +18,7 @@ pub mod ModelForms
 pub mod More
 pub mod Neat
 pub mod Needed
+pub mod OneElsewhere
 pub mod PolicyForms
 pub mod Printed
 pub mod Ranks

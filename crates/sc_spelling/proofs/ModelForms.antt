@@ -98,7 +98,7 @@ AsModel x y = stripped_model y ≡ stripped_model x
 abbrev pub made_model : Bool → Named → Policy → Policy → List FieldDef → ℕ → ModelDef
 made_model p n a d fs place = record { principal = p; name = n; create = a; delete = d; fields = fs; at = place }
 
-model_as : (p q : Bool) (m l : Piece) (a b d e : Policy) (fs gs : List FieldDef) (i j : ℕ) → q ≡ p → m.bytes ≡ l.bytes → AsPolicy a b → AsPolicy d e → Same AsField fs gs
+pub model_as : (p q : Bool) (m l : Piece) (a b d e : Policy) (fs gs : List FieldDef) (i j : ℕ) → q ≡ p → m.bytes ≡ l.bytes → AsPolicy a b → AsPolicy d e → Same AsField fs gs
     → AsModel (made_model p (named l) a d fs i) (made_model q (named m) b e gs j)
 model_as p q m l a b d e fs gs i j h n r t f =
     ap (λ z. made_model z (stripped_name (named m)) (stripped_policy b) (stripped_policy e) (map stripped_field gs) 0) h

@@ -37,7 +37,7 @@ AsPolicy x y = stripped_policy y ≡ stripped_policy x
 abbrev pub policy_lexemes : Policy → List Lexeme
 policy_lexemes x = lexemes_of_marks (spelled_policy x)
 
-fun_as : (m l : Piece) (u t : SetExpr) → m.bytes ≡ l.bytes → AsSet t u → AsPolicy (policy.Fun (named l) t) (policy.Fun (named m) u)
+pub fun_as : (m l : Piece) (u t : SetExpr) → m.bytes ≡ l.bytes → AsSet t u → AsPolicy (policy.Fun (named l) t) (policy.Fun (named m) u)
 fun_as m l u t n r = ap (λ z. policy.Fun z (stripped_set u)) (name_as m l n) ∙ ap (λ z. policy.Fun (stripped_name (named l)) z) r
 
 pub policy_c : (S : Pieces) → Knows S → (x : Policy) (ls : List Piece) → AreGood ls → Spells S policy_form x ls

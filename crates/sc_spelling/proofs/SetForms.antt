@@ -89,7 +89,7 @@ item_c S know x ls good (inr (y, is, d)) =
     (c.rewritten (ap lexemes_of_marks (layer.One_spelled y)) (omega arith)
     (moved item.One (λ w r. layer.One_stripped w ∙ ap item.One r ∙ sym (layer.One_stripped y)) (λ w ks d. inr (w, refl, d)) (know.expr y ls good d).1))
 
-list_as : (xs ys : List Item) (a b : ℕ) → Same AsItem xs ys → AsSet (s.List xs b) (s.List ys a)
+pub list_as : (xs ys : List Item) (a b : ℕ) → Same AsItem xs ys → AsSet (s.List xs b) (s.List ys a)
 list_as xs ys a b r = layer.List_stripped ys a ∙ ap (λ z. s.List z 0) (same_map stripped_item xs ys r) ∙ sym (layer.List_stripped xs b)
 
 pub list_held : (S : Pieces) → Knows S → (x : SetExpr) (ls : List Piece) → AreGood ls → Spells S list x ls → HeldSet S 2 x (length ls)
@@ -127,7 +127,7 @@ AsFilter x y = stripped_filter y ≡ stripped_filter x
 abbrev pub filter_of : Piece → FilterOp → Expr → Filter
 filter_of l o x = roll-Filter (record { field = named l; op = o; value = x })
 
-filter_as : (m l : Piece) (p o : FilterOp) (y x : Expr) → m.bytes ≡ l.bytes → p ≡ o → AsExpr x y → AsFilter (filter_of l o x) (filter_of m p y)
+pub filter_as : (m l : Piece) (p o : FilterOp) (y x : Expr) → m.bytes ≡ l.bytes → p ≡ o → AsExpr x y → AsFilter (filter_of l o x) (filter_of m p y)
 filter_as m l p o y x n f r =
     layer.Filter_stripped (named m) p y ∙ ap (λ z. roll-Filter (record { field = z; op = p; value = stripped_expr y })) (name_as m l n)
     ∙ ap (λ z. roll-Filter (record { field = stripped_name (named l); op = z; value = stripped_expr y })) f

@@ -77,7 +77,7 @@ add_step S v ls (front, back, glue, (w, is, (a, b, g, first, (rest, t))), d) = (
   ),
 )
 
-sum_as : (u t : SetExpr) → AsSet t u → AsStep (λ left. s.Sum left t (set_at left)) (λ left. s.Sum left u (set_at left))
+pub sum_as : (u t : SetExpr) → AsSet t u → AsStep (λ left. s.Sum left t (set_at left)) (λ left. s.Sum left u (set_at left))
 sum_as u t r x y h =
     layer.Sum_stripped y u (set_at y) ∙ ap (λ z. s.Sum z (stripped_set u) 0) h ∙ ap (λ z. s.Sum (stripped_set x) z 0) r ∙ sym (layer.Sum_stripped x t (set_at x))
 
@@ -95,7 +95,7 @@ sum_step S t m j =
           (moved (λ w. w.1 w.0) (λ w r. r.1 x w.0 r.0) (add_step S) (c.both (set_held_at S 1 (omega arith) x n h) added))));
     }
 
-less_as : (u t : SetExpr) → AsSet t u → AsStep (λ left. s.Less left t (set_at left)) (λ left. s.Less left u (set_at left))
+pub less_as : (u t : SetExpr) → AsSet t u → AsStep (λ left. s.Less left t (set_at left)) (λ left. s.Less left u (set_at left))
 less_as u t r x y h =
     layer.Less_stripped y u (set_at y) ∙ ap (λ z. s.Less z (stripped_set u) 0) h ∙ ap (λ z. s.Less (stripped_set x) z 0) r ∙ sym (layer.Less_stripped x t (set_at x))
 
@@ -148,12 +148,12 @@ sum_held S know x ls good (v, is, (p, q, g, first, (rest, t))) =
 
 -- ---- choices
 
-if_as : (y x : Expr) (w v u t : SetExpr) (a b : ℕ) → AsExpr x y → AsSet v w → AsSet t u → AsSet (s.IfS x v t b) (s.IfS y w u a)
+pub if_as : (y x : Expr) (w v u t : SetExpr) (a b : ℕ) → AsExpr x y → AsSet v w → AsSet t u → AsSet (s.IfS x v t b) (s.IfS y w u a)
 if_as y x w v u t a b f g h =
     layer.IfS_stripped y w u a ∙ ap (λ z. s.IfS z (stripped_set w) (stripped_set u) 0) f ∙ ap (λ z. s.IfS (stripped_expr x) z (stripped_set u) 0) g
     ∙ ap (λ z. s.IfS (stripped_expr x) (stripped_set v) z 0) h ∙ sym (layer.IfS_stripped x v t b)
 
-match_as : (y x : Expr) (w v u t : SetExpr) (m l : Piece) (a b : ℕ) → AsExpr x y → AsSet v w → m.bytes ≡ l.bytes → AsSet t u
+pub match_as : (y x : Expr) (w v u t : SetExpr) (m l : Piece) (a b : ℕ) → AsExpr x y → AsSet v w → m.bytes ≡ l.bytes → AsSet t u
     → AsSet (s.MatchS x v (named l) t b) (s.MatchS y w (named m) u a)
 match_as y x w v u t m l a b f g n h =
     layer.MatchS_stripped y w (named m) u a ∙ ap (λ z. s.MatchS z (stripped_set w) (stripped_name (named m)) (stripped_set u) 0) f

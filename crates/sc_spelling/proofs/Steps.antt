@@ -42,7 +42,7 @@ lambda_c S f l safe admitted h = c.both (lower_token S l safe admitted) (behind_
 
 -- ---- Find
 
-find_as : (m l : Piece) (ys xs : List Filter) (a b : ℕ) → m.bytes ≡ l.bytes → Same AsFilter xs ys → AsSet (s.Find (named l) xs b) (s.Find (named m) ys a)
+pub find_as : (m l : Piece) (ys xs : List Filter) (a b : ℕ) → m.bytes ≡ l.bytes → Same AsFilter xs ys → AsSet (s.Find (named l) xs b) (s.Find (named m) ys a)
 find_as m l ys xs a b n r =
     layer.Find_stripped (named m) ys a ∙ ap (λ z. s.Find z (map stripped_filter ys) 0) (name_as m l n)
     ∙ ap (λ z. s.Find (stripped_name (named l)) z 0) (same_map stripped_filter xs ys r) ∙ sym (layer.Find_stripped (named l) xs b)
@@ -120,13 +120,13 @@ step_lexemes : (word x : List ℕ) (body : List Mark)
 step_lexemes word x body =
     ap (λ z. dot ∷ at k.Lower word ∷ at k.ParenOpen (sign_of k.ParenOpen) ∷ at k.Lower x ∷ at k.Arrow (sign_of k.Arrow) ∷ z) (lexemes_append body (mark.sign k.ParenClose ∷ []))
 
-map_as : (m l : Piece) (y x : Expr) → m.bytes ≡ l.bytes → AsExpr x y → AsStep (λ of. s.MapS of (named l) x (set_at of)) (λ of. s.MapS of (named m) y (set_at of))
+pub map_as : (m l : Piece) (y x : Expr) → m.bytes ≡ l.bytes → AsExpr x y → AsStep (λ of. s.MapS of (named l) x (set_at of)) (λ of. s.MapS of (named m) y (set_at of))
 map_as m l y x n r t u h =
     layer.MapS_stripped u (named m) y (set_at u) ∙ ap (λ z. s.MapS z (stripped_name (named m)) (stripped_expr y) 0) h
     ∙ ap (λ z. s.MapS (stripped_set t) z (stripped_expr y) 0) (name_as m l n)
     ∙ ap (λ z. s.MapS (stripped_set t) (stripped_name (named l)) z 0) r ∙ sym (layer.MapS_stripped t (named l) x (set_at t))
 
-flat_as : (m l : Piece) (y x : SetExpr) → m.bytes ≡ l.bytes → AsSet x y → AsStep (λ of. s.FlatS of (named l) x (set_at of)) (λ of. s.FlatS of (named m) y (set_at of))
+pub flat_as : (m l : Piece) (y x : SetExpr) → m.bytes ≡ l.bytes → AsSet x y → AsStep (λ of. s.FlatS of (named l) x (set_at of)) (λ of. s.FlatS of (named m) y (set_at of))
 flat_as m l y x n r t u h =
     layer.FlatS_stripped u (named m) y (set_at u) ∙ ap (λ z. s.FlatS z (stripped_name (named m)) (stripped_set y) 0) h
     ∙ ap (λ z. s.FlatS (stripped_set t) z (stripped_set y) 0) (name_as m l n)

@@ -1,2 +1,2 @@
 -- The words that the public laws speak in.
-pub use Rattle.sc_spelling.specs.Reprinted.{AreOf, AreTokens, IsPrinted, IsReprinted, lexeme}
+pub use Rattle.sc_spelling.specs.Reprinted.{AreOf, AreTokens, HaveSameTokens, IsPrinted, IsReprinted, lexeme}

@@ -3,7 +3,9 @@ use Rattle.std.specs.Prelude.{◌≡◌, ◌≤◌, ℕ, List, map, length}
 use Rattle.std.specs.List.{All}
 use Rattle.sc_lexer.specs.Lexeme.{Lexeme}
 use Rattle.sc_lexer.specs.Written.{IsPart}
-use Rattle.sc_ast.specs.Pieces.{Piece}
+use Rattle.sc_lexer.specs.Lexes.{Lexes}
+use Rattle.sc_lexer.specs.declared.token.Token.{Token}
+use Rattle.sc_ast.specs.Pieces.{Piece, pieces_of}
 use Rattle.sc_tree.specs.ExprGrammar.{G}
 use Rattle.sc_tree.specs.Texts.{IsSpelled, IsTextOf}
 use Rattle.sc_print.specs.Marks.{Mark, lexemes_of_marks}
@@ -32,3 +34,11 @@ pub record IsPrinted {A : Type 0} (f : G A) (stripped : A → A) (x : A) (text :
   pub tree : A
   pub spells : IsTextOf f text tree
   pub same : stripped tree ≡ stripped x
+
+-- The texts have the same tokens, at any places.
+pub record HaveSameTokens (text other : List ℕ) : Type 0 where
+  pub tokens : List Token
+  pub others : List Token
+  pub lexed : Lexes text tokens
+  pub lexed_too : Lexes other others
+  pub same : map lexeme (pieces_of text tokens) ≡ map lexeme (pieces_of other others)

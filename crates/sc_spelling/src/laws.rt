@@ -13,12 +13,13 @@ ghost use Rattle.sc_tree.specs.declared.models.Spec.{Spec};
 ghost use Rattle.sc_tree.specs.Grammar.{policy_form, script_form, spec_form};
 ghost use Rattle.sc_tree.specs.Stripped.{stripped_expr, stripped_policy, stripped_set};
 ghost use Rattle.sc_tree.specs.Stripped.{stripped_script, stripped_spec};
-ghost use Rattle.sc_tree.specs.Texts.{IsScriptText, IsSpecText, IsSpelled, IsTextOf};
+ghost use Rattle.sc_tree.specs.Texts.{IsScriptText, IsSpecText, IsSpelled, IsSpelledAt, IsTextOf};
 ghost use Rattle.sc_print.specs.Commands.{spelled_script};
 ghost use Rattle.sc_print.specs.Exprs.{spelled_expr, spelled_set};
 ghost use Rattle.sc_print.specs.Marks.{lexemes_of_marks, text_of_marks};
 ghost use Rattle.sc_print.specs.Models.{spelled_policy, spelled_spec};
-ghost use Rattle.sc_spelling.specs.Reprinted.{AreOf, AreTokens, IsPrinted, IsReprinted, lexeme};
+ghost use Rattle.sc_spelling.specs.Reprinted.{AreOf, AreTokens, HaveSameTokens};
+ghost use Rattle.sc_spelling.specs.Reprinted.{IsPrinted, IsReprinted, lexeme};
 
 /// The canonical text of a policy, a specification or a script that a text spells within the limits
 /// is a text that spells it again, offsets aside, within the limits.
@@ -83,4 +84,54 @@ pub fn parentheses_are_needed()
         lexemes_of_marks (spelled_policy x) ≡ a ++ left ∷ (b ++ right ∷ c) →
         map lexeme ls ≡ a ++ (b ++ c) →
         AreTokens ls → IsSpelled policy_form y ls → ¬ (stripped_policy y ≡ stripped_policy x) }
+{}
+
+/// What tokens spell, the same tokens at other places spell too, offsets aside.
+pub fn spelled_elsewhere()
+    ensures expressions { (n : ℕ) (x : Expr) (ls ks : List Piece) → map lexeme ks ≡ map lexeme ls →
+        IsSpelledAt n (part Expression) x ls →
+        (y : Expr) × IsSpelledAt n (part Expression) y ks × (stripped_expr y ≡ stripped_expr x) }
+    ensures sets { (n : ℕ) (x : SetExpr) (ls ks : List Piece) → map lexeme ks ≡ map lexeme ls →
+        IsSpelledAt n (part Set) x ls →
+        (y : SetExpr) × IsSpelledAt n (part Set) y ks × (stripped_set y ≡ stripped_set x) }
+    ensures policies { (n : ℕ) (x : Policy) (ls ks : List Piece) → map lexeme ks ≡ map lexeme ls →
+        IsSpelledAt n policy_form x ls →
+        (y : Policy) × IsSpelledAt n policy_form y ks × (stripped_policy y ≡ stripped_policy x) }
+    ensures specifications { (n : ℕ) (x : Spec) (ls ks : List Piece) →
+        map lexeme ks ≡ map lexeme ls → IsSpelledAt n spec_form x ls →
+        (y : Spec) × IsSpelledAt n spec_form y ks × (stripped_spec y ≡ stripped_spec x) }
+    ensures scripts { (n : ℕ) (x : Script) (ls ks : List Piece) →
+        map lexeme ks ≡ map lexeme ls → IsSpelledAt n script_form x ls →
+        (y : Script) × IsSpelledAt n script_form y ks × (stripped_script y ≡ stripped_script x) }
+{}
+
+/// The same tokens at other places spell no other tree, offsets aside, however many items it has
+/// and however deep it nests.
+pub fn one_tree_elsewhere()
+    ensures expressions { (n m : ℕ) (x y : Expr) (ls ks : List Piece) →
+        map lexeme ks ≡ map lexeme ls → IsSpelledAt n (part Expression) x ls →
+        IsSpelledAt m (part Expression) y ks → stripped_expr x ≡ stripped_expr y }
+    ensures sets { (n m : ℕ) (x y : SetExpr) (ls ks : List Piece) →
+        map lexeme ks ≡ map lexeme ls → IsSpelledAt n (part Set) x ls →
+        IsSpelledAt m (part Set) y ks → stripped_set x ≡ stripped_set y }
+    ensures policies { (n m : ℕ) (x y : Policy) (ls ks : List Piece) →
+        map lexeme ks ≡ map lexeme ls → IsSpelledAt n policy_form x ls →
+        IsSpelledAt m policy_form y ks → stripped_policy x ≡ stripped_policy y }
+    ensures specifications { (n m : ℕ) (x y : Spec) (ls ks : List Piece) →
+        map lexeme ks ≡ map lexeme ls → IsSpelledAt n spec_form x ls →
+        IsSpelledAt m spec_form y ks → stripped_spec x ≡ stripped_spec y }
+    ensures scripts { (n m : ℕ) (x y : Script) (ls ks : List Piece) →
+        map lexeme ks ≡ map lexeme ls → IsSpelledAt n script_form x ls →
+        IsSpelledAt m script_form y ks → stripped_script x ≡ stripped_script y }
+{}
+
+/// A text that has the tokens of another, with other blanks, line ends and comments, spells the
+/// tree that the other spells, offsets aside, within the same limits.
+pub fn layout_means_nothing()
+    ensures policies { (text other : List ℕ) (x : Policy) → HaveSameTokens text other →
+        IsTextOf policy_form text x → IsPrinted policy_form stripped_policy x other }
+    ensures specifications { (text other : List ℕ) (x : Spec) → HaveSameTokens text other →
+        IsSpecText text x → IsPrinted spec_form stripped_spec x other }
+    ensures scripts { (text other : List ℕ) (x : Script) → HaveSameTokens text other →
+        IsScriptText text x → IsPrinted script_form stripped_script x other }
 {}

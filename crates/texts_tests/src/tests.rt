@@ -6,6 +6,7 @@ use sc_tree::{Script, Spec};
 use std::alloc::Global;
 use std::test::Fail;
 
+mod copies;
 mod refusals;
 mod spellings;
 
