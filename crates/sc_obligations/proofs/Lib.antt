@@ -1,2 +1,4 @@
+pub mod Joined
+pub mod KindLaws
 pub mod Seen
 pub mod UseLaws

@@ -7,15 +7,13 @@ use Rattle.sc_schema.specs.declared.trees.TSet.{TSet}
 use Rattle.sc_schema.specs.Uses.{Use, uses_of, set_uses_of, in_order_of_text}
 use Rattle.sc_schema.specs.Views.{expr_of, set_of}
 use Rattle.sc_obligations.specs.Uses.{AreInText}
+use Rattle.sc_obligations.proofs.Joined.{joined}
 
 abbrev in_expr : TExpr → List Use
 in_expr e = uses_of (expr_of e)
 
 abbrev in_set : TSet → List Use
 in_set e = set_uses_of (set_of e)
-
-joined : (old mid new whole a b : List Use) → whole ≡ a ++ b → mid ≡ old ++ a → new ≡ mid ++ b → new ≡ old ++ whole
-joined old mid new whole a b w p q = q ∙ (ap (λ xs. xs ++ b) p ∙ (append_assoc old a b ∙ ap (λ xs. old ++ xs) (sym w)))
 
 pub two_exprs : (e a b x y : TExpr) (old mid new : List Use) → in_expr e ≡ in_expr a ++ in_expr b → x ≡ a → y ≡ b
     → mid ≡ old ++ in_expr x → new ≡ mid ++ in_expr y → new ≡ old ++ in_expr e

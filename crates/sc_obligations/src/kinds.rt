@@ -6,7 +6,8 @@ ghost use Rattle.sc_schema.specs.Kinds as rule;
 ghost use Rattle.sc_schema.specs.Schema as plain;
 ghost use Rattle.sc_schema.specs.Script as script;
 ghost use Rattle.sc_schema.specs.SchemaViews.{command_of, schema_of, script_of};
-ghost use Rattle.sc_obligations.specs.Kinds.{candidates, ever_has};
+ghost use Rattle.sc_obligations.specs.Kinds.{ever_has, kept_by, kinds_on_the_way};
+ghost use Rattle.sc_obligations.specs.Kinds.{models_from, statics_from};
 
 use sc_schema::{Kind, ModelNo, Schema, StaticNo, TCommand, TScript};
 use std::alloc::{AllocError, Global};
@@ -97,4 +98,91 @@ fn last_schema(t: &TScript) -> &Schema
         Some(s) => s,
         None => &t.start,
     }
+}
+
+/// The kinds of any schema on the way: statics by number, then models by number.
+pub(crate) fn all_kinds(alloc: Global, t: &TScript) -> Result<Vec<Kind>, AllocError>
+    ensures { IfOk result (λ kinds. kinds.items ≡ kinds_on_the_way (script_of t.now)) }
+{
+    let mut kinds = Vec::new(alloc);
+    let last = last_schema(t);
+    add_statics(&mut kinds, t, last.next_static)?;
+    add_models(&mut kinds, t, last.next_model)?;
+    Ok(kinds)
+}
+
+/// Puts those statics with numbers below this one last that a schema on the way has.
+fn add_statics(kinds: &mut Vec<Kind>, t: &TScript, below: u32) -> Result<(), AllocError>
+    ensures { OnOk result (kinds.new.items ≡ kinds.old.items
+        ++ filter (ever_has (script_of t.now)) (statics_from 0 below)) }
+{
+    for n in 0..below {
+        add_kind(kinds, t, Kind::Static(n))?;
+    }
+    Ok(())
+}
+
+/// Puts those models with numbers below this one last that a schema on the way has as principals.
+fn add_models(kinds: &mut Vec<Kind>, t: &TScript, below: u32) -> Result<(), AllocError>
+    ensures { OnOk result (kinds.new.items ≡ kinds.old.items
+        ++ filter (ever_has (script_of t.now)) (models_from 0 below)) }
+{
+    for m in 0..below {
+        add_kind(kinds, t, Kind::Model(m))?;
+    }
+    Ok(())
+}
+
+/// Puts the kind last if a schema on the way has it.
+fn add_kind(kinds: &mut Vec<Kind>, t: &TScript, kind: Kind) -> Result<(), AllocError>
+    ensures { OnOk result (kinds.new.items ≡ kinds.old.items
+        ++ filter (ever_has (script_of t.now)) (kind ∷ [])) }
+{
+    if is_ever(t, kind) {
+        kinds.push(kind)?;
+    }
+    Ok(())
+}
+
+/// Those of the kinds that none of the commands drops.
+pub(crate) fn kept_kinds(
+    alloc: Global,
+    kinds: &[Kind],
+    commands: &[TCommand],
+) -> Result<Vec<Kind>, AllocError>
+    ensures { IfOk result (λ kept. kept.items ≡ kept_by (map command_of commands.now) kinds.now) }
+{
+    let mut kept = Vec::new(alloc);
+    for kind in kinds {
+        if !is_dropped(commands, *kind) {
+            kept.push(*kind)?;
+        }
+    }
+    Ok(kept)
+}
+
+/// The kinds after the first k commands, where these are all on the way.
+pub(crate) fn kinds_after(
+    alloc: Global,
+    t: &TScript,
+    all: &[Kind],
+    k: usize,
+) -> Result<Vec<Kind>, AllocError>
+    requires within { k ≤ length t.now.commands }
+    requires all { all.now ≡ kinds_on_the_way (script_of t.now) }
+    ensures { IfOk result (λ kinds. kinds.items ≡ rule.kinds_at (script_of t.now) k) }
+{
+    let commands = t.commands.as_slice();
+    let kept = kept_kinds(alloc, all, &commands[..k])?;
+    Ok(kept)
+}
+
+/// The kinds of principals after the first k commands: those of any schema on the way, before or
+/// after, but those that one of the k commands drops.
+pub fn kinds(alloc: Global, t: &TScript, k: u32) -> Result<Vec<Kind>, AllocError>
+    requires { k ≤ length t.now.commands }
+    ensures { IfOk result (λ kinds. kinds.items ≡ rule.kinds_at (script_of t.now) k) }
+{
+    let all = all_kinds(alloc, t)?;
+    kinds_after(alloc, t, all.as_slice(), k as usize)
 }
