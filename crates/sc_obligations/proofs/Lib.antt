@@ -1,3 +1,4 @@
+pub mod DutyLaws
 pub mod Joined
 pub mod KindLaws
 pub mod Seen

@@ -2,16 +2,15 @@
 //!
 //! | module | holds |
 //! |---|---|
-//! | `kinds` | [`kinds`], the kinds of principals at a command |
+//! | `principals` | [`kinds`], the kinds of principals at a command |
 //! | `uses` | [`uses_in`], the fields that an initialiser uses |
-//! | `duties` | [`duties`], the obligations in order |
+//! | `listing` | [`duties`], the obligations in order |
 #![tactic(auto)]
 
-
-
-mod kinds;
+mod listing;
+mod principals;
 mod uses;
 
-
-
+pub use listing::duties;
+pub use principals::kinds;
 pub use uses::{Use, uses_in};

@@ -1,6 +1,6 @@
 use Rattle.std.proofs.Common.{◌≡◌, ◌∙◌, ap, length, take, refl}
 use Rattle.sc_obligations.proofs.KindLaws.{kinds-after}
-use Rattle.sc_obligations.proofs.kinds.kinds_after.Goals as goal
+use Rattle.sc_obligations.proofs.principals.kinds_after.Goals as goal
 
 pub returns : goal.returns
 returns c =

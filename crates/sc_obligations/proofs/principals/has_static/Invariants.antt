@@ -3,7 +3,7 @@ use Rattle.std.specs.Prelude.{is_some, ◌==◌}
 use Rattle.std.specs.List.{find}
 use Rattle.sc_schema.specs.SchemaViews.{static_info_of}
 use Rattle.sc_schema.specs.Schema.{StaticInfo}
-use Rattle.sc_obligations.proofs.kinds.has_static.Given as goal
+use Rattle.sc_obligations.proofs.principals.has_static.Given as goal
 
 -- whether it is there is settled by those that are left
 abbrev pub invariant-loop-known : goal.invariant-loop-known

@@ -1,7 +1,7 @@
 use Rattle.std.proofs.Common.{◌≡◌, map, drop}
 use Rattle.sc_schema.specs.SchemaViews.{command_of}
 use Rattle.sc_schema.specs.Kinds as rule
-use Rattle.sc_obligations.proofs.kinds.is_dropped.Given as goal
+use Rattle.sc_obligations.proofs.principals.is_dropped.Given as goal
 
 abbrev pub invariant-loop-command : goal.invariant-loop-command
 invariant-loop-command l =

@@ -3,7 +3,7 @@ use Rattle.sc_schema.specs.SchemaViews.{script_of}
 use Rattle.sc_obligations.specs.Kinds.{ever_has}
 use Rattle.sc_obligations.proofs.Joined.{joined}
 use Rattle.sc_obligations.proofs.KindLaws.{models-more}
-use Rattle.sc_obligations.proofs.kinds.add_models.Goals as goal
+use Rattle.sc_obligations.proofs.principals.add_models.Goals as goal
 
 pub loop-m-preserved : goal.loop-m-preserved
 loop-m-preserved c =

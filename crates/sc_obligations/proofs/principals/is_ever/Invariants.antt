@@ -2,7 +2,7 @@ use Rattle.std.proofs.Common.{◌≡◌, map, drop}
 use Rattle.std.specs.List.{list_any}
 use Rattle.sc_schema.specs.SchemaViews.{schema_of}
 use Rattle.sc_schema.specs.Kinds.{has_kind}
-use Rattle.sc_obligations.proofs.kinds.is_ever.Given as goal
+use Rattle.sc_obligations.proofs.principals.is_ever.Given as goal
 
 abbrev pub invariant-loop-s : goal.invariant-loop-s
 invariant-loop-s l =

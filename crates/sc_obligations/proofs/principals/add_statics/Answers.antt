@@ -3,7 +3,7 @@ use Rattle.sc_schema.specs.SchemaViews.{script_of}
 use Rattle.sc_obligations.specs.Kinds.{ever_has}
 use Rattle.sc_obligations.proofs.Joined.{joined}
 use Rattle.sc_obligations.proofs.KindLaws.{statics-more}
-use Rattle.sc_obligations.proofs.kinds.add_statics.Goals as goal
+use Rattle.sc_obligations.proofs.principals.add_statics.Goals as goal
 
 pub loop-n-preserved : goal.loop-n-preserved
 loop-n-preserved c =

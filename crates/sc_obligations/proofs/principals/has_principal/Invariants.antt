@@ -2,7 +2,7 @@ use Rattle.std.proofs.Common.{◌≡◌, map, drop, false}
 use Rattle.std.specs.Option.{option_map_or}
 use Rattle.sc_schema.specs.SchemaViews.{model_info_of}
 use Rattle.sc_schema.specs.Schema.{ModelInfo, model_in}
-use Rattle.sc_obligations.proofs.kinds.has_principal.Given as goal
+use Rattle.sc_obligations.proofs.principals.has_principal.Given as goal
 
 abbrev pub invariant-loop-info : goal.invariant-loop-info
 invariant-loop-info l =
