@@ -1,0 +1,5 @@
+pub mod DutyLaws
+pub mod Joined
+pub mod KindLaws
+pub mod Seen
+pub mod UseLaws

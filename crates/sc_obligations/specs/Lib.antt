@@ -1,0 +1,4 @@
+pub mod Duties
+pub mod Kinds
+pub mod Public
+pub mod Uses

@@ -1,0 +1,9 @@
+-- The terms that the terms of the code stand for.
+use Rattle.sc_formula.specs.Trees as tree
+use Rattle.sc_writer.specs.declared.term.Term.{Term, Bound, Num, Str, App'}
+
+abbrev pub term_data : Term → tree.Term
+term_data (Bound sort depth) = tree.bound sort depth
+term_data (Num n) = tree.num n
+term_data (Str text) = tree.str text.now
+term_data (App' f p t) = tree.app f (term_data t)

@@ -1,0 +1,14 @@
+//! Terms.
+
+use sc_ast::Txt;
+
+/// A term.
+#[derive(Clone, Copy)]
+pub enum Term<'a> {
+    /// A variable: the sort of its quantifier, and how many quantifiers stand above that one.
+    Bound(u32, u32),
+    Num(i64),
+    Str(&'a Txt),
+    /// A function at a term.
+    App(u32, &'a Term<'a>),
+}
