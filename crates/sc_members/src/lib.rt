@@ -19,8 +19,6 @@ mod parts;
 mod principals;
 mod seen;
 mod sets;
-#[cfg(test)]
-mod tests;
 mod touching;
 
 pub use answers::{allows, init_value, members, touched};
