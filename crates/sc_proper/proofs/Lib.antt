@@ -1,0 +1,17 @@
+pub mod After
+pub mod Gone
+pub mod Grown
+pub mod Kept
+pub mod Lists
+pub mod Lookups
+pub mod NewField
+pub mod NewModel
+pub mod Resolved
+pub mod Resolves
+pub mod Scripted
+pub mod ShownTrees
+pub mod Specs
+pub mod Steadily
+pub mod Unlisted
+pub mod Users
+pub mod WithField
