@@ -1,8 +1,8 @@
 -- What pieces spell, the same pieces elsewhere spell too, offsets aside: how such facts go together.
-use Rattle.std.proofs.Common.{◌≡◌, ◌≤◌, ◌⊎◌, inl, inr, ℕ, suc, arith, Bool, true, List, [], ◌∷◌, ◌++◌, length, map, refl, sym, ◌∙◌, ap, subst}
+use Rattle.std.proofs.Common.{◌≡◌, ◌⊎◌, inl, inr, ℕ, suc, arith, List, [], ◌∷◌, ◌++◌, length, map, refl, sym, ◌∙◌, ap, subst}
 use Rattle.sc_lexer.specs.Lexeme.{Lexeme}
 use Rattle.sc_ast.specs.Pieces.{Piece}
-use Rattle.sc_tree.specs.Forms.{Form, Want, Times, AnyNumber, AtMost, AreWithin, IsToken, ◌then◌, Sign, Word, Upper, Lower, Plain, Negated, Literal, Spells, SpellsEach, admits, loosened, nothing, token, both, either, each, ended, mapped, part, within}
+use Rattle.sc_tree.specs.Forms.{Want, Times, AreWithin, IsToken, ◌then◌, Sign, Word, Upper, Lower, Plain, Negated, Literal, Spells, SpellsEach, admits, loosened, nothing, token, both, either, each, ended, mapped, part, within}
 use Rattle.sc_tree.specs.ExprGrammar.{Part, G, tree_of}
 use Rattle.sc_spelling.proofs.Canonical.{Same, cut, lexeme, lexemes}
 use Rattle.sc_spelling.proofs.Chains.{SameBytes}

@@ -3,26 +3,23 @@ use Rattle.std.proofs.Common.{◌≡◌, ℕ, zero, suc, List, [], ◌∷◌, re
 use Rattle.std.specs.List.{fold}
 use Rattle.sc_ast.specs.Pieces.{Piece}
 use Rattle.sc_tree.specs.declared.exprs.CmpOp.{CmpOp}
-use Rattle.sc_tree.specs.declared.exprs.CmpOp.TheVariants as op
 use Rattle.sc_tree.specs.declared.exprs.FilterOp.{FilterOp}
 use Rattle.sc_tree.specs.declared.exprs.FilterOp.TheVariants as filter
 use Rattle.sc_tree.specs.declared.exprs.Expr.{Expr}
 use Rattle.sc_tree.specs.declared.exprs.Expr.TheVariants as e
 use Rattle.sc_tree.specs.declared.exprs.SetExpr.{SetExpr}
 use Rattle.sc_tree.specs.declared.exprs.SetExpr.TheVariants as s
-use Rattle.sc_tree.specs.declared.exprs.Item.{Item}
 use Rattle.sc_tree.specs.declared.exprs.Item.TheVariants as item
-use Rattle.sc_tree.specs.declared.exprs.Filter.{Filter}
-use Rattle.sc_tree.specs.Forms.{Want, Times, AnyNumber, Sign, Word, Upper, Lower, Plain, Negated, Literal, Spells, nothing, token, both, either, each, ended, mapped, part}
+use Rattle.sc_tree.specs.Forms.{Upper, Lower, Plain, Negated, Literal, part}
 use Rattle.sc_tree.specs.Levels.{SpellsPart}
 use Rattle.sc_tree.specs.LiteralValue.{literal_value}
-use Rattle.sc_tree.specs.Placed.{expr_at, placed_expr, placed_set, set_at}
-use Rattle.sc_tree.specs.ExprGrammar.{Part, Expression, Set, G, rule, tree_of, var_of, get, step, named, minus, listed, path_root, path, flag, number, literal, option, atom, unary, cmp_op, container, comparison, compared, conjunction, disjunction, condition, branches, if_expr, scrutinee, none_branch, some_branch, match_expr, expression, item_form, list, filter_op, filter_form, find, map_step, flat_step, steps, found, path_steps, path_chain, set_term, set_step, sum, if_set, match_set, set}
-use Rattle.sc_tree.specs.Stripped.{stripped_expr, stripped_item, stripped_set, stripped_name}
-use Rattle.sc_spelling.proofs.Canonical.{Same, lexemes}
+use Rattle.sc_tree.specs.Placed.{expr_at, placed_expr, placed_set}
+use Rattle.sc_tree.specs.ExprGrammar.{Expression, Set, G, rule, var_of, get, step, named, minus, listed, path_root, path, flag, number, literal, option, atom, unary, cmp_op, container, comparison, compared, conjunction, disjunction, condition, branches, if_expr, scrutinee, none_branch, some_branch, match_expr, expression, item_form, list, filter_op, filter_form, find, map_step, flat_step, steps, found, path_steps, path_chain, set_term, set_step, sum, if_set, match_set, set}
+use Rattle.sc_tree.specs.Stripped.{stripped_name}
+use Rattle.sc_spelling.proofs.Canonical.{Same}
 use Rattle.sc_spelling.proofs.Chains.{SameBytes, fields_as, steps_as}
 use Rattle.sc_spelling.proofs.Compounds.{and_as, cmp_as, member_as, or_as}
-use Rattle.sc_spelling.proofs.Elsewhere.{Both, Found, Steady, behind_steady, between_steady, both_steady, each_steady, either_steady, ended_steady, mapped_steady, nothing_steady, part_steady, token_steady}
+use Rattle.sc_spelling.proofs.Elsewhere.{Both, Steady, behind_steady, between_steady, both_steady, each_steady, either_steady, ended_steady, mapped_steady, nothing_steady, part_steady, token_steady}
 use Rattle.sc_spelling.proofs.ExprForms.{not_as, num_as, some_as, str_as, var_as}
 use Rattle.sc_spelling.proofs.ExprRule as expr
 use Rattle.sc_spelling.proofs.Layers as layer

@@ -1,31 +1,22 @@
 -- What pieces spell of policies, specifications and scripts, the same pieces elsewhere spell too, offsets aside.
-use Rattle.std.proofs.Common.{◌≡◌, ℕ, List, refl, sym, ◌∙◌, ap, Bool, true, false, Option, Some, None, map, codes}
-use Rattle.sc_lexer.specs.declared.token.TokenKind.TheVariants as k
-use Rattle.sc_ast.specs.Pieces.{Piece}
+use Rattle.std.proofs.Common.{ℕ, List, refl, ◌∙◌, ap, Some, None, map, codes}
 use Rattle.sc_tree.specs.declared.named.Named.{Named}
 use Rattle.sc_tree.specs.declared.named.Reason.{Reason}
-use Rattle.sc_tree.specs.declared.policies.Policy.{Policy}
-use Rattle.sc_tree.specs.declared.policies.Policy.TheVariants as policy
-use Rattle.sc_tree.specs.declared.policies.Init.{Init}
 use Rattle.sc_tree.specs.declared.policies.Init.TheVariants as init
-use Rattle.sc_tree.specs.declared.models.Base.{Base}
 use Rattle.sc_tree.specs.declared.models.Base.TheVariants as base
-use Rattle.sc_tree.specs.declared.models.Ty.{Ty}
 use Rattle.sc_tree.specs.declared.models.Ty.TheVariants as ty
-use Rattle.sc_tree.specs.declared.models.FieldDef.{FieldDef}
 use Rattle.sc_tree.specs.declared.models.ModelDef.{ModelDef}
 use Rattle.sc_tree.specs.declared.models.Spec.{Spec}
 use Rattle.sc_tree.specs.declared.commands.Command.{Command}
 use Rattle.sc_tree.specs.declared.commands.Command.TheVariants as command
-use Rattle.sc_tree.specs.declared.commands.Script.{Script}
-use Rattle.sc_tree.specs.Forms.{Want, Times, AnyNumber, AtMost, Sign, Word, Upper, Lower, Literal, Spells, nothing, token, both, either, each, ended, mapped, part, within}
+use Rattle.sc_tree.specs.Forms.{Want, Upper, Lower, Literal, token, mapped}
 use Rattle.sc_tree.specs.LiteralValue.{literal_value}
-use Rattle.sc_tree.specs.ExprGrammar.{G, named}
-use Rattle.sc_tree.specs.Grammar.{policy_form, right, base_form, set_type, plain_type, field_rights, field_of, field_form, fields_form, model_head, model_form, static_form, spec_form, rights, field_right_list, model_right_list, reason_form, added_set, added_plain, add_field, remove_field, update_field, weaken_field, update_model, weaken_model, model_command, named_command, command_form, script_form}
+use Rattle.sc_tree.specs.ExprGrammar.{named}
+use Rattle.sc_tree.specs.Grammar.{policy_form, right, base_form, set_type, plain_type, field_rights, field_form, fields_form, model_head, model_form, static_form, spec_form, rights, field_right_list, model_right_list, reason_form, added_set, added_plain, add_field, remove_field, update_field, weaken_field, update_model, weaken_model, model_command, named_command, command_form, script_form}
 use Rattle.sc_tree.specs.Stripped.{stripped_command, stripped_model, stripped_name}
 use Rattle.sc_spelling.proofs.Canonical.{Same}
 use Rattle.sc_spelling.proofs.Chains.{SameBytes}
-use Rattle.sc_spelling.proofs.CommandForms.{AsAdded, AsBoth, AsCommand, AsGiven, AsInit, AsReason, AsScript, AsTail, add_as, made_script, remove_as, update_as, update_model_as, weaken_as, weaken_model_as}
+use Rattle.sc_spelling.proofs.CommandForms.{AsAdded, AsBoth, AsCommand, AsGiven, AsReason, AsScript, AsTail, add_as, made_script, remove_as, update_as, update_model_as, weaken_as, weaken_model_as}
 use Rattle.sc_spelling.proofs.Elsewhere.{Both, Steady, behind_steady, between_steady, both_steady, each_steady, either_steady, ended_steady, mapped_steady, nothing_steady, token_steady, within_steady}
 use Rattle.sc_spelling.proofs.ElsewhereExprs.{Parts}
 use Rattle.sc_spelling.proofs.ExprForms.{name_as}

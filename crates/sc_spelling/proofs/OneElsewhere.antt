@@ -2,10 +2,10 @@
 use Rattle.std.proofs.Common.{◌≡◌, ◌≤◌, ◌+◌, ℕ, List, [], ap, sym, ◌∙◌, arith, true, subst, refl}
 use Rattle.sc_ast.specs.Words.{is_type_word, is_command_word, is_reserved_lower}
 use Rattle.sc_ast.specs.Pieces.{Piece}
-use Rattle.sc_tree.specs.Forms.{Form, Spells, loosened, part, same_kind}
+use Rattle.sc_tree.specs.Forms.{Spells, loosened, same_kind}
 use Rattle.sc_tree.specs.Levels.{SpellsPart}
 use Rattle.sc_tree.specs.ExprGrammar as e
-use Rattle.sc_tree.specs.ExprGrammar.{G, Part, rule, tree_of}
+use Rattle.sc_tree.specs.ExprGrammar.{G, rule}
 use Rattle.sc_tree.specs.Grammar as g
 use Rattle.sc_tree.specs.Texts.{IsSpelledAt, first_of}
 use Rattle.sc_forms.specs.Reading.{Got}

@@ -1,6 +1,4 @@
-use Rattle.std.proofs.Common.{◌≡◌, ℕ, List, map, subst, sym}
-use Rattle.sc_lexer.specs.Lexes.{Lexes}
-use Rattle.sc_lexer.specs.declared.token.Token.{Token}
+use Rattle.std.proofs.Common.{◌≡◌, ℕ, List, subst, sym}
 use Rattle.sc_lexer.proofs.TokenLists.{one_list}
 use Rattle.sc_ast.specs.Pieces.{pieces_of}
 use Rattle.sc_tree.specs.ExprGrammar.{G, rule}
