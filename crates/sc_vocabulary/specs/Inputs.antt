@@ -9,7 +9,7 @@ use Rattle.sc_formula.specs.declared.structure.Signature.{Signature}
 use Rattle.sc_formula.specs.Nodes as formula
 use Rattle.sc_formula.specs.Over.{AreComparable, IsFunction}
 use Rattle.sc_formula.specs.Trees.{Term as ATerm, bound, num, str, app}
-use Rattle.sc_terms.specs.GroundTerms.{field, sort_of}
+use Rattle.sc_terms.specs.GroundTerms.{field, record_sort, sort_of}
 use Rattle.sc_term_arena.specs.declared.node.TermNode.{TermNode}
 use Rattle.sc_term_arena.specs.Nodes.{IsOne, term_of, Extends}
 use Rattle.sc_tables.specs.Vocabulary.{Vocabulary, IsValued, told}
@@ -27,6 +27,10 @@ literal_range (bound sort depth) = None
 literal_range (num n) = Some range.Num
 literal_range (str t) = Some range.Str
 literal_range (app h t) = None
+
+-- the function gives this, and no element
+abbrev pub IsPlainRange : Signature → ℕ → Range → Type 0
+IsPlainRange g h r = (sig : FunSig) × IsFunction g h sig × (sig.to ≡ r) × (record_sort r ≡ None)
 
 module _ (g : Signature) (v : Vocabulary) (nodes : List Node) (terms : List TermNode) where
   -- the value is a term of the vocabulary that has things of this range, or it is a number or a text

@@ -43,6 +43,9 @@ module _ (g : Signature) (variables : List Variable) (listed : List GroundTerm) 
 abbrev pub AreMarked : List TermNode → Telling → Type 0
 AreMarked nodes t = (id : ℕ) → slice_get t.standings.items id ≡ Some Named → IsOne nodes id × Contains (terms_at nodes t.named.items) (term_of nodes id)
 
+abbrev pub AreMarkedOther : List TermNode → Telling → Type 0
+AreMarkedOther nodes t = (id : ℕ) → slice_get t.standings.items id ≡ Some Other → IsOne nodes id × Contains (terms_at nodes t.others.items) (term_of nodes id)
+
 -- a marked number is that of a listed term
 abbrev pub AreListedMarks : List TermNode → List ℕ → List Bool → Type 0
 AreListedMarks nodes listed marks = (id : ℕ) → slice_get marks id ≡ Some true → Contains (terms_at nodes listed) (term_of nodes id)

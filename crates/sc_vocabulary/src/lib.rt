@@ -8,8 +8,12 @@
 //! - `spoken`: the vocabulary of instances.
 #![tactic(auto)]
 
+mod checks;
 mod fields;
+mod pairs;
+mod spoken;
 mod telling;
 mod words;
 
+pub use spoken::{Spoken, vocabulary_of};
 pub use words::{PairNode, Words};

@@ -1,0 +1,4 @@
+pub mod Decided
+pub mod FieldLaws
+pub mod SpokenLaws
+pub mod TellingLaws
