@@ -23,7 +23,8 @@ use Rattle.sc_terms.proofs.Kept.{list_all-from}
 use Rattle.sc_terms.proofs.Lists.{list_all-Contains}
 use Rattle.sc_tables.specs.Vocabulary.{Vocabulary, IsVocabulary}
 use Rattle.sc_tables.specs.Table.{Table, holds, is_there}
-use Rattle.sc_tables.specs.Facts.{Fact, Assignment, is_fact, is_met, table_for}
+use Rattle.std.proofs.lemmas.List.Elements.{Contains-append_cases}
+use Rattle.sc_tables.specs.Facts.{Fact, Assignment, Clause, is_fact, is_met, table_for}
 use Rattle.sc_tables.specs.Clauses.{base_clauses, congruence_clauses}
 use Rattle.sc_tables.specs.Models.{Model, IsLawful, assignment_of}
 use Rattle.sc_tables.proofs.Modeled.{modeled, from_modeled}

@@ -133,7 +133,7 @@ module _ (cs : List Clause) (nodes : List Node) (made : Instances) where
   own_gates = all_clauses (first_gate made facts) 0 made.gates
 
   abbrev root : List Literal
-  root = root_clause made facts g v nodes
+  root = root_clause made facts nodes cs
 
   abbrev last : List (List Literal)
   last = all_tables.0 ++ root ∷ []

@@ -1,3 +1,4 @@
+pub mod CheckLaws
 pub mod Decided
 pub mod FieldLaws
 pub mod SpokenLaws

@@ -14,7 +14,7 @@ use Rattle.sc_terms.proofs.Listed.{to_map, in_map}
 use Rattle.sc_term_arena.specs.declared.node.TermNode.{TermNode}
 use Rattle.sc_term_arena.specs.Nodes.{Extends, IsOne, term_of}
 use Rattle.sc_ground.specs.declared.part.Variable.{Variable}
-use Rattle.sc_ground.specs.Standing.{AreTermsAt, terms_at}
+use Rattle.sc_ground.specs.Standing.{AreOnes, AreTermsAt, terms_at}
 use Rattle.sc_ground.specs.Variables.{variable_at}
 use Rattle.sc_ground.proofs.Standing.{term_kept, terms_at_kept}
 use Rattle.sc_tables.specs.Vocabulary.{AreFormed, IsFormed, IsOther, IsVocabulary, Pair, Vocabulary, only}
@@ -32,7 +32,10 @@ use Rattle.sc_vocabulary.specs.declared.words.Words.{Words}
 use Rattle.sc_vocabulary.specs.Inputs.{AreFieldsOf, AreInputs, IsToldInput, IsOfSort, pairs_in}
 use Rattle.sc_vocabulary.specs.Spoken.{IsSpoken}
 use Rattle.sc_vocabulary.specs.Words.{ArePairs, IsWords, pair_at, vocabulary_at}
-use Rattle.sc_vocabulary.specs.WordsFound.{AreSpokenBy, AreWordsFor}
+use Rattle.sc_vocabulary.specs.WordsFound.{AreSpokenBy, AreWordsFor, IsTellingFor}
+use Rattle.sc_vocabulary.specs.declared.telling.Standing.TheVariants.{Named}
+use Rattle.sc_vocabulary.specs.declared.telling.Telling.{Telling}
+use Rattle.sc_vocabulary.specs.Telling.{IsFine, IsTelling, told_so_far}
 use Rattle.sc_vocabulary.proofs.Decided.{decided}
 
 -- inputs of numbers of terms stand for the same when there are more terms
@@ -68,7 +71,11 @@ instances_stay g nodes f ts old new kept ones listed inputs gates root h =
       listed = terms_at_kept old.terms new.terms old.listed.items ts kept h.listed;
       reads = λ is_there holds v are. h.reads is_there holds v (inputs_stay nodes old.terms new.terms kept is_there holds old.inputs v ones are);
     } in
-    let same : moved ≡ new = cc in
+    let same : moved ≡ new =
+    ap (λ x. record { terms = new.terms; listed = x; inputs = old.inputs; gates = old.gates; root = old.root }) (sym listed)
+    ∙ (ap (λ x. record { terms = new.terms; listed = new.listed; inputs = x; gates = old.gates; root = old.root }) (sym inputs)
+    ∙ (ap (λ x. record { terms = new.terms; listed = new.listed; inputs = new.inputs; gates = x; root = old.root }) (sym gates)
+    ∙ ap (λ x. record { terms = new.terms; listed = new.listed; inputs = new.inputs; gates = new.gates; root = x }) (sym root))) in
     let P : Instances → Type 0 = λ made. AreInstancesOf g nodes f ts made in
     subst P same all
 
@@ -186,3 +193,35 @@ module _ (g : Signature) (nodes : List Node) (f : Formula) (ts : List GroundTerm
     told = told_new;
     fields = let P : List Input → Type 0 = λ is. AreFieldsOf terms is s.fields.items in subst P (sym found.inputs) found.added.stand;
   }
+
+module _ (g : Signature) (arena : List Node) (variables : List Variable) (closed : Bool) (nodes : List TermNode) (listed : List ℕ) (inputs : List Input) where
+  pub telling_for : (t : Telling) → IsTelling g variables (terms_at nodes listed) closed nodes t → ((id : ℕ) → Contains listed id → slice_get t.standings.items id ≡ Some Named)
+      → ((i : Input) → Contains inputs i → IsToldInput g (told_so_far nodes t) arena nodes i) → IsTellingFor g arena variables closed nodes listed inputs t
+  telling_for t h marked told = record {
+    telling = h;
+    ranged = λ u c.
+        let (id, there, e) = in_map (term_of nodes) listed u c in
+        let P : GroundTerm → Type 0 = λ u. Contains (terms_at nodes t.named.items) u in
+        subst P e (h.marked id (marked id there)).1;
+    told = told;
+  }
+
+  pub words_for : (t : Telling) (w : Words) → w.named.items ≡ t.named.items → w.others.items ≡ t.others.items → w.pairs.items ≡ flat_map pairs_in inputs → IsTellingFor g arena variables closed nodes listed inputs t
+      → AreWordsFor g arena variables closed nodes listed inputs w
+  words_for t w n o p h =
+      let O : List ℕ → Type 0 = λ ids. AreOnes nodes ids in
+      let F : List ℕ → Type 0 = λ ids. (u : GroundTerm) → Contains (terms_at nodes ids) u → IsFine g variables (terms_at nodes listed) closed (terms_at nodes ids) u in
+      let G : List ℕ → Type 0 = λ ids. (u : GroundTerm) → Contains (terms_at nodes t.others.items) u → IsOther g (only (terms_at nodes ids)) u in
+      let G' : List ℕ → Type 0 = λ ids. (u : GroundTerm) → Contains (terms_at nodes ids) u → IsOther g (only (terms_at nodes w.named.items)) u in
+      let R : List ℕ → Type 0 = λ ids. (u : GroundTerm) → Contains (terms_at nodes listed) u → Contains (terms_at nodes ids) u in
+      let T : List ℕ → Type 0 = λ ids. (i : Input) → Contains inputs i → IsToldInput g (record { named = terms_at nodes ids; others = terms_at nodes t.others.items; pairs = map (pair_at nodes) w.pairs.items }) arena nodes i in
+      let T' : List ℕ → Type 0 = λ ids. (i : Input) → Contains inputs i → IsToldInput g (record { named = terms_at nodes w.named.items; others = terms_at nodes ids; pairs = map (pair_at nodes) w.pairs.items }) arena nodes i in
+      record {
+        ones = subst O (sym n) h.telling.ones;
+        other_ones = subst O (sym o) h.telling.other_ones;
+        fine = subst F (sym n) h.telling.fine;
+        functions = subst G' (sym o) (subst G (sym n) h.telling.functions);
+        ranged = subst R (sym n) h.ranged;
+        told = subst T' (sym o) (subst T (sym n) h.told);
+        pairs = p;
+      }

@@ -150,7 +150,8 @@ impl Check<'_> {
     {
         match self.telling.standing(id) {
             Standing::Absent => false,
-            Standing::Named | Standing::Other => true,
+            Standing::Named => true,
+            Standing::Other => true,
         }
     }
 

@@ -1,6 +1,6 @@
 //! The vocabulary of instances.
 
-ghost use Rattle.std.specs.Prelude.{◌≡◌, [], Contains, IfOk, IsTrue, List, Some, length, map};
+ghost use Rattle.std.specs.Prelude.{◌≡◌, ◌⊎◌, [], Contains, IfOk, IsTrue, List, Some, length, map};
 ghost use Rattle.std.specs.Prelude.{slice_get, true, ℕ};
 ghost use Rattle.sc_formula.specs.Over.{IsOver};
 ghost use Rattle.sc_formula.specs.Trees.{Formula};
@@ -34,6 +34,18 @@ pub struct Spoken {
     pub fields: Vec<u32>,
 }
 
+/// Marks a number, if there is a place for it.
+fn mark(marks: &mut Vec<bool>, id: u32)
+    ensures { (k : ℕ) → slice_get marks.new.items k ≡ Some true →
+        (k ≡ id) ⊎ (slice_get marks.old.items k ≡ Some true) }
+{
+    let place = id as usize;
+    if place >= marks.len() {
+        return;
+    }
+    marks[place] = true;
+}
+
 /// For each number below a count whether it is in a list.
 fn marks_of(alloc: Global, count: usize, listed: &[u32]) -> Result<Vec<bool>, AllocError>
     ensures { IfOk result (λ marks. (id : ℕ) → slice_get marks.items id ≡ Some true →
@@ -41,10 +53,7 @@ fn marks_of(alloc: Global, count: usize, listed: &[u32]) -> Result<Vec<bool>, Al
 {
     let mut marks = vec![in alloc; false; count]?;
     for id in listed {
-        let place = *id as usize;
-        if place < marks.len() {
-            marks[place] = true;
-        }
+        mark(&mut marks, *id);
     }
     Ok(marks)
 }
