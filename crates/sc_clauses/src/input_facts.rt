@@ -68,7 +68,7 @@ pub(crate) fn facts_of(
         ≡ Some (map (fact_at arena.now terms.now) facts.items)) }
 {
     match input {
-        Input::There(id) => vec![in alloc; FactNode::There(id)],
+        Input::There(id) => Ok(vec![in alloc; FactNode::There(id)]?),
         Input::Equal(a, b) => facts_of_two(alloc, arena, terms, a, b, FactNode::Same(a, b)),
         Input::Less(a, b) => facts_of_two(alloc, arena, terms, a, b, FactNode::Below(a, b)),
         Input::Has(relation, Value::Term(holder), Value::Term(member)) => {
@@ -77,12 +77,12 @@ pub(crate) fn facts_of(
                 holder,
                 member,
             };
-            vec![in alloc; FactNode::Related(pair)]
+            Ok(vec![in alloc; FactNode::Related(pair)]?)
         }
         Input::Flag(_, Value::Term(_)) => {
-            vec![in alloc; FactNode::There(field), FactNode::Raised(field)]
+            Ok(vec![in alloc; FactNode::There(field), FactNode::Raised(field)]?)
         }
-        Input::Present(_, Value::Term(_)) => vec![in alloc; FactNode::There(field)],
+        Input::Present(_, Value::Term(_)) => Ok(vec![in alloc; FactNode::There(field)]?),
         Input::Has(..) | Input::Flag(..) | Input::Present(..) => Err(AllocError),
     }
 }
