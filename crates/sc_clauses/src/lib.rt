@@ -10,6 +10,7 @@
 //! - `numbering`: facts as variables.
 //! - `ties`: the clauses that tie inputs to their facts.
 //! - `ground`: all clauses.
+//! - `laws`: what holds of clauses on facts.
 #![tactic(auto)]
 
 mod base;
@@ -19,8 +20,11 @@ mod demand;
 mod facts;
 mod ground;
 mod input_facts;
+mod laws;
 mod numbering;
 mod terms;
+#[cfg(test)]
+mod tests;
 mod ties;
 
 pub use base::base_clauses;
@@ -28,3 +32,4 @@ pub use congruences::congruence_clauses;
 pub use demand::{Truth, broken};
 pub use facts::{FactLiteral, FactNode};
 pub use ground::{GroundClauses, ground_clauses};
+pub use laws::unbroken_clauses_are_met;
