@@ -20,9 +20,10 @@ module _ (nodes : List Node) (terms : List TermNode) (a : Assignment) (truth : F
   pub all_met : (cs : List (List FactLiteral)) → ((c : List FactLiteral) (l : FactLiteral) → Contains cs c → Contains c l → truth l.fact ≡ is_fact a (fact_at nodes terms l.fact)) → filter (is_broken truth) cs ≡ []
       → list_all (is_met a) (clauses_at nodes terms cs) ≡ true
   all_met [] h e = refl
-  all_met (c ∷ cs) h e = by (is_met_by truth c) (clause_said c (λ l d. h c l (Contains-head c cs) d)) e
+  all_met (c ∷ cs) h e =
+      by (is_met_by truth c) (clause_said c (λ l d. h c l (Contains-head c cs) d)) (all_met cs (λ d l p q. h d l (Contains-tail c cs d p) q)) e
     where
-      by : (b : Bool) → b ≡ is_met a (clause_at nodes terms c) → cond (not b) (c ∷ filter (is_broken truth) cs) (filter (is_broken truth) cs) ≡ []
-          → (is_met a (clause_at nodes terms c) && list_all (is_met a) (clauses_at nodes terms cs)) ≡ true
-      by true said e = ap (λ b. b && list_all (is_met a) (clauses_at nodes terms cs)) (sym said) ∙ all_met cs (λ d l p q. h d l (Contains-tail c cs d p) q) e
-      by false said e = cc
+      by : (b : Bool) → b ≡ is_met a (clause_at nodes terms c) → (filter (is_broken truth) cs ≡ [] → list_all (is_met a) (clauses_at nodes terms cs) ≡ true)
+          → cond (not b) (c ∷ filter (is_broken truth) cs) (filter (is_broken truth) cs) ≡ [] → (is_met a (clause_at nodes terms c) && list_all (is_met a) (clauses_at nodes terms cs)) ≡ true
+      by true said later e = ap (λ b. b && list_all (is_met a) (clauses_at nodes terms cs)) (sym said) ∙ later e
+      by false said later e = cc

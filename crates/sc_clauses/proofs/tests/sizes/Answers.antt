@@ -9,12 +9,12 @@ no_walk : (through : List ℕ) (sort : ℕ) → IsWalk [] sort (through ++ sort 
 no_walk [] sort walk = Contains-none (sort, sort) walk.0
 no_walk (x ∷ through) sort walk = Contains-none (sort, x) walk.0
 
-pub herbrand-requires-clause-over : goal.herbrand-requires-clause-over
-herbrand-requires-clause-over c =
+pub made_of-requires-clause-over : goal.made_of-requires-clause-over
+made_of-requires-clause-over c =
     let is = ap formula_part c.in_ok-some.ensures.made.means ∙ ap (λ tree. exists 0 (formula_part tree)) c.in_ok-yes.ensures.made.means in
     rw is (lit< tt, tt)
 
-pub herbrand-requires-clause-stratified : goal.herbrand-requires-clause-stratified
-herbrand-requires-clause-stratified c =
+pub made_of-requires-clause-stratified : goal.made_of-requires-clause-stratified
+made_of-requires-clause-stratified c =
     let is = ap formula_part c.in_ok-some.ensures.made.means ∙ ap (λ tree. exists 0 (formula_part tree)) c.in_ok-yes.ensures.made.means in
     rw is (λ sort through walk. no_walk through sort walk)
