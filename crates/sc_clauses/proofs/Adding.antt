@@ -1,7 +1,7 @@
 -- Clauses that are put at the end of a list.
 use Rattle.std.proofs.Common.{◌≡◌, ℕ, ◌+◌, ◌<◌, ◌≤◌, ◌∙◌, sym, refl, ap, subst, List, [], ◌∷◌, ◌++◌, length, get_or, take, map, append_assoc, append-nil}
 use Rattle.std.specs.List.{flat_map}
-use Rattle.std.proofs.lemmas.List.{take_all, take_more}
+use Rattle.std.proofs.lemmas.List.{take_all}
 use Rattle.sc_formula.specs.declared.node.Node.{Node}
 use Rattle.sc_term_arena.specs.declared.node.TermNode.{TermNode}
 use Rattle.sc_ground.proofs.Standing.{map-append, map_next, flat_next}

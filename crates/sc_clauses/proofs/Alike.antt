@@ -1,5 +1,5 @@
 -- Equal facts are the same, and have one number.
-use Rattle.std.proofs.Common.{◌≡◌, ℕ, true, false, Bool, ◌&&◌, refl, sym, subst, ◌∙◌, List, [], ◌∷◌, ◌++◌, Some, cond, ap, slice_get, append-nil, ◌+◌}
+use Rattle.std.proofs.Common.{◌≡◌, ℕ, true, false, ◌&&◌, refl, sym, subst, ◌∙◌, List, [], ◌∷◌, ◌++◌, Some, cond, ap, slice_get, append-nil, ◌+◌}
 use Rattle.std.specs.Prelude.{nat_eq}
 use Rattle.std.specs.List.{list_any}
 use Rattle.std.proofs.lemmas.Bool.{eqb-true, and_parts}
@@ -12,7 +12,7 @@ use Rattle.sc_vocabulary.specs.contracts.words.PairNodePartialEq.TheImpl as pair
 use Rattle.sc_clauses.specs.declared.facts.FactNode.{FactNode}
 use Rattle.sc_clauses.specs.declared.facts.FactNode.TheVariants.{There, Same, Below, Raised, Related, Empty}
 use Rattle.sc_clauses.specs.contracts.facts.FactNodePartialEq.TheImpl as fact_eq
-use Rattle.sc_clauses.specs.Numbers.{KeepsFacts, IsNumber}
+use Rattle.sc_clauses.specs.Numbers.{IsNumber}
 
 same_value : (v w : Value) → (value_eq.ghosts).eq v w ≡ true → v ≡ w
 same_value (Term a) (Term b) e = ap (λ a. Term a) (eqb-true a b e)

@@ -1,9 +1,8 @@
 -- All clauses of a table, from those of its parts.
-use Rattle.std.proofs.Common.{◌≡◌, ℕ, ◌∙◌, sym, refl, ap, subst, List, [], ◌∷◌, ◌++◌, map, Vec, Global}
+use Rattle.std.proofs.Common.{◌≡◌, ℕ, ◌∙◌, sym, ap, subst, List, [], ◌∷◌, ◌++◌, map, Vec, Global}
 use Rattle.std.specs.List.{flat_map}
 use Rattle.sc_formula.specs.declared.node.Node.{Node}
 use Rattle.sc_formula.specs.declared.structure.Signature.{Signature}
-use Rattle.sc_terms.specs.GroundTerms.{GroundTerm}
 use Rattle.sc_term_arena.specs.declared.node.TermNode.{TermNode}
 use Rattle.sc_term_arena.specs.Nodes.{term_of}
 use Rattle.sc_ground.specs.Standing.{AreOnes, terms_at}

@@ -7,13 +7,13 @@ use Rattle.sc_term_arena.specs.declared.node.TermNode.TheVariants.{Cons}
 use Rattle.sc_term_arena.specs.Nodes.{IsList, IsPlaced, list_of, list_part, term_of, tree_of, tree_from, trees_of}
 use Rattle.sc_ground.proofs.Standing.{map-append}
 use Rattle.sc_tables.specs.Clauses.{all_same, one_and_same}
-use Rattle.sc_tables.specs.Facts.{Clause, Fact, Literal, implied, not_so, same, so, term, there}
+use Rattle.sc_tables.specs.Facts.{Fact, Literal, implied, not_so, same, so, term, there}
 use Rattle.sc_instances.specs.declared.input.Value.TheVariants.{Term}
 use Rattle.sc_clauses.specs.declared.facts.FactNode.{FactNode}
 use Rattle.sc_clauses.specs.declared.facts.FactNode.TheVariants.{There, Same}
 use Rattle.sc_clauses.specs.declared.facts.FactLiteral.{FactLiteral}
 use Rattle.sc_clauses.specs.Congruence.{AddsPremises, apart_literals}
-use Rattle.sc_clauses.specs.Facts.{AreAdded, clause_at, clauses_at, literal_at}
+use Rattle.sc_clauses.specs.Facts.{AreAdded, clause_at, literal_at}
 use Rattle.sc_clauses.proofs.Adding.{added_both, added_one}
 
 implied_is : (ps : List Fact) (l : Literal) → implied ps l ≡ map not_so ps ++ l ∷ []

@@ -1,6 +1,6 @@
 -- Clauses that are not broken are met.
-use Rattle.std.proofs.Common.{◌≡◌, ◌∙◌, sym, refl, ap, true, false, not, Bool, ◌||◌, ◌&&◌, List, [], ◌∷◌, cond, Contains, map}
-use Rattle.std.specs.List.{filter, list_any, list_all}
+use Rattle.std.proofs.Common.{◌≡◌, ◌∙◌, sym, refl, ap, true, false, not, Bool, ◌||◌, ◌&&◌, List, [], ◌∷◌, cond, Contains}
+use Rattle.std.specs.List.{filter, list_all}
 use Rattle.sc_terms.proofs.Lists.{Contains-head, Contains-tail}
 use Rattle.sc_formula.specs.declared.node.Node.{Node}
 use Rattle.sc_term_arena.specs.declared.node.TermNode.{TermNode}

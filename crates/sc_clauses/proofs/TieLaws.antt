@@ -1,5 +1,5 @@
 -- The clauses that tie inputs to their facts, and all clauses together.
-use Rattle.std.proofs.Common.{◌≡◌, ℕ, zero, suc, arith, ◌+◌, ◌<◌, ◌≤◌, ◌⊎◌, inl, inr, ◌∙◌, sym, refl, ap, subst, List, [], ◌∷◌, ◌++◌, Some, None, Option, length, map, append_assoc, append-nil, Contains, Vec, Global}
+use Rattle.std.proofs.Common.{◌≡◌, ℕ, zero, suc, arith, ◌+◌, ◌<◌, ◌⊎◌, inl, inr, ◌∙◌, sym, refl, ap, subst, List, [], ◌∷◌, ◌++◌, Some, Option, length, map, append_assoc, append-nil, Contains, Vec, Global}
 use Rattle.std.specs.Prelude.{slice_get}
 use Rattle.std.proofs.lemmas.Option.{slice_get_within}
 use Rattle.std.proofs.lemmas.List.Elements.{Contains-append_cases, Contains-append_left, Contains-append_right}
@@ -11,7 +11,7 @@ use Rattle.sc_term_arena.specs.declared.node.TermNode.{TermNode}
 use Rattle.sc_tables.specs.Facts.{Clause, Fact}
 use Rattle.sc_instances.specs.declared.input.Input.{Input}
 use Rattle.sc_instances.specs.declared.instantiation.Instances.{Instances}
-use Rattle.sc_grounding.specs.GroundClauses.{AreGroundClauses, AreTies, AreVariables, IsClauseFor, IsVariable, first_gate, root_clause, tie_clauses}
+use Rattle.sc_grounding.specs.GroundClauses.{AreGroundClauses, AreTies, AreVariables, IsClauseFor, IsVariable, first_gate, root_clause}
 use Rattle.sc_grounding.specs.InputFacts.{input_facts}
 use Rattle.sc_clauses.specs.declared.facts.FactNode.{FactNode}
 use Rattle.sc_clauses.specs.declared.facts.FactLiteral.{FactLiteral}

@@ -14,7 +14,7 @@ use Rattle.sc_tables.specs.Vocabulary.{Vocabulary, IsVocabulary, IsValued, IsVal
 use Rattle.sc_tables.specs.Table.{Table, is_there, IsSame, AreSame, holds, value_at}
 use Rattle.sc_tables.specs.Consistent.{IsConsistent}
 use Rattle.sc_tables.proofs.Sound.{told_function}
-use Rattle.sc_tables.proofs.Transfer.{AreTerms, read_also}
+use Rattle.sc_tables.proofs.Transfer.{AreTerms}
 
 env_named : (g : Signature) (terms : List GroundTerm) (scope : List ℕ) (env : List GroundTerm) (depth : ℕ) (t : GroundTerm) → AreTerms g terms scope env
     → slice_get env depth ≡ Some t → Contains terms t

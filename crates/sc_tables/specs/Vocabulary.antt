@@ -87,7 +87,7 @@ IsDecidedBy g f terms v =
     (is_there is_there' : GroundTerm → Bool) (one two : Table)
     → ((t : GroundTerm) → Contains v.named t → is_there t ≡ is_there' t)
     → ((a : Formula) (scope : List ℕ) (env : List GroundTerm) → IsOver g scope a → AreTerms g v.named scope env → CoversAtom g v env a
-        → holds one env a ≡ holds two env a)
+    → holds one env a ≡ holds two env a)
     → Reads g is_there (holds one) terms 0 [] no_terms f → Reads g is_there' (holds two) terms 0 [] no_terms f
 
 -- a term that names an element is the constant of a needed sort, or the variable of an `exists` or a function at such terms

@@ -1,5 +1,5 @@
 -- Whether inputs speak of a vocabulary.
-use Rattle.std.proofs.Common.{◌≡◌, ℕ, zero, suc, arith, ◌+◌, ◌<◌, ◌≤◌, ◌∙◌, ◌⊎◌, inl, inr, sym, refl, ap, subst, true, false, Bool, List, [], ◌∷◌, ◌++◌, length, get_or, take, Some, None, Option, Contains}
+use Rattle.std.proofs.Common.{◌≡◌, ℕ, zero, suc, arith, ◌+◌, ◌<◌, ◌≤◌, ◌∙◌, ◌⊎◌, inl, inr, sym, refl, ap, subst, true, Bool, List, [], ◌∷◌, ◌++◌, length, get_or, take, Some, None, Option, Contains}
 use Rattle.std.specs.Prelude.{slice_get, option_and_then, IfSome}
 use Rattle.std.proofs.Math.ListN.{set}
 use Rattle.std.specs.Option.{option_map}
@@ -12,7 +12,7 @@ use Rattle.sc_formula.specs.declared.structure.Signature.{Signature}
 use Rattle.sc_terms.specs.GroundTerms.{GroundTerm, field, record_sort, sort_of}
 use Rattle.sc_term_arena.specs.declared.node.TermNode.{TermNode}
 use Rattle.sc_term_arena.specs.Nodes.{IsOne, term_of}
-use Rattle.sc_tables.specs.Vocabulary.{Vocabulary, IsValued, IsValuedIn, told}
+use Rattle.sc_tables.specs.Vocabulary.{Vocabulary, IsValuedIn}
 use Rattle.sc_tables.specs.Consistent.{range_of}
 use Rattle.sc_instances.specs.declared.input.Value.TheVariants.{Term}
 use Rattle.sc_instances.specs.declared.input.Input.{Input}

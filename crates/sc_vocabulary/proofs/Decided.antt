@@ -1,6 +1,6 @@
 -- The vocabulary of which inputs speak decides how a formula is read.
-use Rattle.std.proofs.Common.{◌≡◌, ℕ, zero, suc, arith, ◌+◌, ◌<◌, ◌∙◌, sym, refl, ap, subst, true, false, Bool, List, [], ◌∷◌, ◌++◌, length, get_or, map, Some, None, Option, Contains, inl, inr, ◌⊎◌}
-use Rattle.std.specs.Prelude.{slice_get, option_and_then, is_some, int_lt}
+use Rattle.std.proofs.Common.{◌≡◌, ℕ, ◌∙◌, sym, refl, ap, subst, true, Bool, List, [], ◌∷◌, get_or, Some, None, Option, Contains, inl, inr}
+use Rattle.std.specs.Prelude.{slice_get, option_and_then, int_lt}
 use Rattle.std.specs.Option.{option_map}
 use Rattle.std.proofs.lemmas.Option.{get_or_from_slice_get, slice_get_within}
 use Rattle.std.proofs.lemmas.List.Elements.{Contains-append_cases}
@@ -11,11 +11,11 @@ use Rattle.sc_formula.specs.declared.structure.Range.TheVariants as range
 use Rattle.sc_formula.specs.declared.structure.Signature.{Signature}
 use Rattle.sc_formula.specs.declared.structure.SVal.{SVal}
 use Rattle.sc_formula.specs.Nodes as formula
-use Rattle.sc_formula.specs.Over.{AreComparable, HasRange, IsFunction, IsOver}
+use Rattle.sc_formula.specs.Over.{HasRange, IsOver}
 use Rattle.sc_formula.specs.Trees.{Formula, Term as ATerm, bound, num, str, app, equal, less, has, flag, present}
-use Rattle.sc_formula.specs.Truth.{are_equal, both_pass, number_of, is_true_value}
+use Rattle.sc_formula.specs.Truth.{are_equal, both_pass, number_of}
 use Rattle.sc_gates.specs.Gates.{value_of}
-use Rattle.sc_terms.specs.GroundTerms.{GroundTerm, GroundTerms, constant, skolem, field, no_terms, sort_of, record_sort}
+use Rattle.sc_terms.specs.GroundTerms.{GroundTerm, constant, skolem, field, no_terms, sort_of, record_sort}
 use Rattle.sc_terms.specs.Reading.{Reads}
 use Rattle.sc_terms.proofs.Lists.{Contains-head}
 use Rattle.sc_term_arena.specs.declared.node.TermNode.{TermNode}
@@ -33,7 +33,7 @@ use Rattle.sc_instances.specs.Inputs.{AreInputsOf, input_value, literal_of, valu
 use Rattle.sc_instances.specs.Made.{AreInstancesOf}
 use Rattle.sc_grounding.specs.Says.{says, value_in}
 use Rattle.sc_grounding.proofs.AtomsSaid.{read_also, atom_said}
-use Rattle.sc_vocabulary.specs.Inputs.{IsOfRange, IsOfSort, IsToldAt, IsToldInput, literal_range, pairs_in}
+use Rattle.sc_vocabulary.specs.Inputs.{IsOfRange, IsToldInput, literal_range, pairs_in}
 use Rattle.sc_vocabulary.specs.declared.words.PairNode.{PairNode}
 use Rattle.sc_vocabulary.specs.Words.{pair_at}
 

@@ -1,12 +1,10 @@
 -- The functions at values of which inputs speak.
-use Rattle.std.proofs.Common.{◌≡◌, ℕ, zero, suc, arith, ◌+◌, ◌<◌, ◌∙◌, sym, refl, ap, subst, true, List, [], ◌∷◌, ◌++◌, length, get_or, take, Some}
-use Rattle.std.specs.Prelude.{slice_get}
-use Rattle.std.specs.Option.{option_map}
+use Rattle.std.proofs.Common.{◌≡◌, ℕ, zero, suc, arith, ◌+◌, ◌<◌, ◌∙◌, sym, ap, subst, List, [], ◌∷◌, ◌++◌, length, get_or, take}
 use Rattle.std.proofs.lemmas.List.{take_more}
 use Rattle.sc_terms.specs.GroundTerms.{field}
 use Rattle.sc_term_arena.specs.declared.node.TermNode.{TermNode}
 use Rattle.sc_term_arena.specs.declared.node.TermNode.TheVariants.{Field}
-use Rattle.sc_term_arena.specs.Nodes.{IsAdded, IsOne, Extends, kind_at, is_one, term_of, term_part}
+use Rattle.sc_term_arena.specs.Nodes.{IsAdded, IsOne, Extends, term_part}
 use Rattle.sc_ground.proofs.Standing.{extends_both, extends_none, one_kept, term_kept}
 use Rattle.sc_instances.specs.declared.input.Value.{Value}
 use Rattle.sc_instances.specs.declared.input.Value.TheVariants.{Term, Literal}

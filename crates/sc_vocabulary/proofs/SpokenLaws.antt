@@ -1,5 +1,5 @@
 -- The words of which inputs speak are a vocabulary.
-use Rattle.std.proofs.Common.{◌≡◌, ℕ, zero, suc, arith, ◌+◌, ◌<◌, ◌∙◌, sym, refl, ap, subst, true, false, Bool, List, [], ◌∷◌, ◌++◌, length, get_or, take, map, Some, None, Option, Contains, inl, inr, ◌⊎◌, Vec, Global}
+use Rattle.std.proofs.Common.{◌≡◌, ℕ, zero, suc, ◌∙◌, sym, refl, ap, subst, Bool, List, [], ◌∷◌, map, Some, Contains, inl, inr, Vec, Global}
 use Rattle.std.specs.Prelude.{slice_get}
 use Rattle.std.specs.List.{flat_map}
 use Rattle.sc_formula.specs.declared.node.Node.{Node}
@@ -14,22 +14,22 @@ use Rattle.sc_terms.proofs.Listed.{to_map, in_map}
 use Rattle.sc_term_arena.specs.declared.node.TermNode.{TermNode}
 use Rattle.sc_term_arena.specs.Nodes.{Extends, IsOne, term_of}
 use Rattle.sc_ground.specs.declared.part.Variable.{Variable}
-use Rattle.sc_ground.specs.Standing.{AreOnes, AreTermsAt, terms_at}
+use Rattle.sc_ground.specs.Standing.{AreOnes, terms_at}
 use Rattle.sc_ground.specs.Variables.{variable_at}
 use Rattle.sc_ground.proofs.Standing.{term_kept, terms_at_kept}
-use Rattle.sc_tables.specs.Vocabulary.{AreFormed, IsFormed, IsOther, IsVocabulary, Pair, Vocabulary, only}
+use Rattle.sc_tables.specs.Vocabulary.{AreFormed, IsFormed, IsOther, Pair, Vocabulary, only}
 use Rattle.sc_instances.specs.declared.input.Value.{Value}
 use Rattle.sc_instances.specs.declared.input.Value.TheVariants.{Term, Literal}
 use Rattle.sc_instances.specs.declared.input.Input.{Input}
 use Rattle.sc_instances.specs.declared.input.Input.TheVariants.{There, Equal, Less, Has, Flag, Present}
 use Rattle.sc_instances.specs.declared.instantiation.Instances.{Instances}
-use Rattle.sc_instances.specs.GroundAtoms.{GroundAtom, named, equal_values, less_value, related, flagged, present_at}
+use Rattle.sc_instances.specs.GroundAtoms.{GroundAtom, named}
 use Rattle.sc_instances.specs.Inputs.{AreInputsOf, IsInput, IsValue, input_value, value_at}
 use Rattle.sc_instances.specs.Made.{AreInstancesOf}
 use Rattle.sc_vocabulary.specs.declared.spoken.Spoken.{Spoken}
 use Rattle.sc_vocabulary.specs.declared.words.PairNode.{PairNode}
 use Rattle.sc_vocabulary.specs.declared.words.Words.{Words}
-use Rattle.sc_vocabulary.specs.Inputs.{AreFieldsOf, AreInputs, IsToldInput, IsOfSort, pairs_in}
+use Rattle.sc_vocabulary.specs.Inputs.{AreFieldsOf, AreInputs, IsToldInput, pairs_in}
 use Rattle.sc_vocabulary.specs.Spoken.{IsSpoken}
 use Rattle.sc_vocabulary.specs.Words.{ArePairs, IsWords, pair_at, vocabulary_at}
 use Rattle.sc_vocabulary.specs.WordsFound.{AreSpokenBy, AreWordsFor, IsTellingFor}

@@ -1,31 +1,29 @@
 -- A vocabulary as it is found.
-use Rattle.std.proofs.Common.{◌≡◌, ℕ, zero, suc, arith, ◌+◌, ◌<◌, ◌≤◌, ◌∙◌, sym, refl, ap, subst, true, false, Bool, List, [], ◌∷◌, ◌++◌, length, get_or, take, drop, map, Some, None, Option, Contains, inl, inr, ◌⊎◌, append-nil, add-one}
+use Rattle.std.proofs.Common.{◌≡◌, ℕ, zero, suc, ◌+◌, ◌<◌, ◌≤◌, ◌∙◌, sym, refl, ap, subst, true, false, Bool, List, [], ◌∷◌, ◌++◌, length, get_or, drop, map, Some, None, Contains, inl, inr, ◌⊎◌, add-one}
 use Rattle.std.specs.Prelude.{slice_get}
 use Rattle.std.specs.Option.{option_map}
 use Rattle.std.proofs.Math.Seq.{drop-cons}
 use Rattle.std.proofs.Math.ListN.{drop_of_length-le}
-use Rattle.std.proofs.lemmas.List.Elements.{Contains-append_cases, Contains-append_left, Contains-append_right, Contains-push}
-use Rattle.sc_formula.specs.declared.structure.FunSig.{FunSig}
+use Rattle.std.proofs.lemmas.List.Elements.{Contains-append_cases, Contains-append_left, Contains-push}
 use Rattle.sc_formula.specs.declared.structure.Signature.{Signature}
-use Rattle.sc_formula.specs.Over.{IsFunction}
 use Rattle.sc_formula.specs.Trees.{Formula}
-use Rattle.sc_terms.specs.GroundTerms.{GroundTerm, GroundTerms, constant, skolem, field, no_terms, term_and, sort_of, target_of, record_sort}
+use Rattle.sc_terms.specs.GroundTerms.{GroundTerm, GroundTerms, constant, skolem, field, no_terms, term_and, sort_of}
 use Rattle.sc_terms.specs.Parts as tree
 use Rattle.sc_terms.specs.Universe.{HaveSorts, HasEach, variables_of}
 use Rattle.sc_terms.proofs.Lists.{Contains-cons_cases, Contains-none}
 use Rattle.sc_terms.proofs.Listed.{to_map}
 use Rattle.sc_term_arena.specs.declared.node.TermNode.{TermNode}
-use Rattle.sc_term_arena.specs.declared.node.TermNode.TheVariants.{Constant, Skolem, Field, Empty, Cons}
-use Rattle.sc_term_arena.specs.Nodes.{IsOne, IsList, IsPlaced, is_one, kind_at, list_of, list_part, term_of, term_part, tree_of, tree_from, trees_of}
+use Rattle.sc_term_arena.specs.declared.node.TermNode.TheVariants.{Empty, Cons}
+use Rattle.sc_term_arena.specs.Nodes.{IsOne, IsList, IsPlaced, is_one, list_of, list_part, term_of, tree_of, tree_from, trees_of}
 use Rattle.sc_ground.specs.declared.part.Variable.{Variable}
 use Rattle.sc_ground.specs.Standing.{AreOnes, terms_at}
 use Rattle.sc_ground.specs.Variables.{variable_at}
 use Rattle.sc_ground.proofs.Standing.{map-append}
-use Rattle.sc_tables.specs.Vocabulary.{IsFormed, IsFunctionAt, IsOther, only}
+use Rattle.sc_tables.specs.Vocabulary.{IsFormed, IsOther, only}
 use Rattle.sc_vocabulary.specs.declared.telling.Standing.{Standing}
 use Rattle.sc_vocabulary.specs.declared.telling.Standing.TheVariants.{Absent, Named, Other}
 use Rattle.sc_vocabulary.specs.declared.telling.Telling.{Telling}
-use Rattle.sc_vocabulary.specs.Telling.{IsFine, IsStandingOf, IsTelling, AreMarked, named_by, others_by}
+use Rattle.sc_vocabulary.specs.Telling.{IsFine, IsStandingOf, IsTelling, named_by, others_by}
 
 -- the terms of a list, those before a place aside, are of sorts and are named; then so are all
 pub record IsLeft (g : Signature) (nodes : List TermNode) (named : List GroundTerm) (sorts : List ℕ) (list at k : ℕ) : Type 0 where

@@ -1,5 +1,5 @@
 -- Inputs of the instances that speak of a vocabulary alone.
-use Rattle.std.specs.Prelude.{◌≡◌, ℕ, List, [], ◌∷◌, Option, None, Some, Contains, slice_get, slice_index_or, length}
+use Rattle.std.specs.Prelude.{◌≡◌, ℕ, List, [], ◌∷◌, Option, None, Some, Contains, slice_get}
 use Rattle.sc_formula.specs.declared.node.Node.{Node}
 use Rattle.sc_formula.specs.declared.structure.FunSig.{FunSig}
 use Rattle.sc_formula.specs.declared.structure.SetSig.{SetSig}

@@ -1,5 +1,5 @@
 -- Vocabularies, by numbers of ground terms.
-use Rattle.std.specs.Prelude.{ℕ, List, [], ◌∷◌, map}
+use Rattle.std.specs.Prelude.{List, [], ◌∷◌, map}
 use Rattle.sc_term_arena.specs.declared.node.TermNode.{TermNode}
 use Rattle.sc_term_arena.specs.Nodes.{IsOne, term_of}
 use Rattle.sc_ground.specs.Standing.{AreOnes, terms_at}

@@ -5,10 +5,9 @@ use Rattle.sc_formula.specs.declared.node.Node.{Node}
 use Rattle.sc_formula.specs.declared.structure.Signature.{Signature}
 use Rattle.sc_terms.specs.GroundTerms.{GroundTerm}
 use Rattle.sc_term_arena.specs.declared.node.TermNode.{TermNode}
-use Rattle.sc_term_arena.specs.Nodes.{term_of}
 use Rattle.sc_ground.specs.declared.part.Variable.{Variable}
 use Rattle.sc_ground.specs.Standing.{AreOnes, terms_at}
-use Rattle.sc_tables.specs.Vocabulary.{IsOther, Vocabulary, only}
+use Rattle.sc_tables.specs.Vocabulary.{IsOther, only}
 use Rattle.sc_instances.specs.declared.input.Input.{Input}
 use Rattle.sc_instances.specs.declared.instantiation.Instances.{Instances}
 use Rattle.sc_vocabulary.specs.declared.telling.Telling.{Telling}

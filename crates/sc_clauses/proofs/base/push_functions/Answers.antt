@@ -1,8 +1,6 @@
-use Rattle.std.proofs.Common.{List, ap, subst}
+use Rattle.std.proofs.Common.{ap}
 use Rattle.std.specs.List.{flat_map}
 use Rattle.sc_tables.specs.Clauses.{function_clauses}
-use Rattle.sc_formula.specs.declared.structure.FunSig.{FunSig}
-use Rattle.sc_clauses.specs.Facts.{AreAdded}
 use Rattle.sc_clauses.proofs.Adding.{added_none, added_more, added_whole, added_as}
 use Rattle.sc_clauses.proofs.base.push_functions.Goals as goal
 

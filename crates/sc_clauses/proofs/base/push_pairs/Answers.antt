@@ -1,5 +1,4 @@
 use Rattle.sc_tables.specs.Clauses.{pair_clauses}
-use Rattle.sc_vocabulary.specs.declared.words.PairNode.{PairNode}
 use Rattle.sc_vocabulary.specs.Words.{pair_at}
 use Rattle.sc_clauses.proofs.Adding.{added_none, added_next, added_all}
 use Rattle.sc_clauses.proofs.base.push_pairs.Goals as goal

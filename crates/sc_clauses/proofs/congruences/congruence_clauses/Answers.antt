@@ -1,5 +1,5 @@
 use Rattle.std.proofs.Common.{◌∙◌}
-use Rattle.sc_clauses.proofs.AllLaws.{congruent, told_ones, listed_ones}
+use Rattle.sc_clauses.proofs.AllLaws.{congruent, told_ones}
 use Rattle.sc_clauses.proofs.congruences.congruence_clauses.Goals as goal
 
 pub push_alikes-requires : goal.push_alikes-requires

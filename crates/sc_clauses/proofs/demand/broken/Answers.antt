@@ -1,4 +1,4 @@
-use Rattle.std.proofs.Common.{◌∙◌, List, Vec, Global, ap, sym, map, ◌++◌, ◌∷◌, []}
+use Rattle.std.proofs.Common.{◌∙◌, List, Vec, Global, ap, map, ◌++◌, ◌∷◌, []}
 use Rattle.std.specs.List.{filter}
 use Rattle.sc_clauses.specs.declared.facts.FactLiteral.{FactLiteral}
 use Rattle.sc_clauses.specs.Demand.{is_broken}

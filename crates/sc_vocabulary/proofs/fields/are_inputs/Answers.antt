@@ -1,4 +1,4 @@
-use Rattle.std.proofs.Common.{List, subst, take}
+use Rattle.std.proofs.Common.{List, subst}
 use Rattle.std.proofs.lemmas.List.{take_all}
 use Rattle.sc_instances.specs.declared.input.Input.{Input}
 use Rattle.sc_instances.specs.declared.input.Input.TheVariants.{There}

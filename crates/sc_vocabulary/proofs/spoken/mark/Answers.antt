@@ -1,4 +1,3 @@
-use Rattle.std.proofs.Common.{inl, inr}
 use Rattle.sc_vocabulary.proofs.CheckLaws.{set_cases}
 use Rattle.sc_vocabulary.proofs.spoken.mark.Goals as goal
 

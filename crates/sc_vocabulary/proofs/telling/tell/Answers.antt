@@ -1,6 +1,6 @@
-use Rattle.std.proofs.Common.{ap, arith, ◌∙◌, ◌∷◌, [], length, length-append}
+use Rattle.std.proofs.Common.{ap, arith, ◌∷◌, [], length, length-append}
 use Rattle.sc_ground.specs.Standing.{terms_at}
-use Rattle.sc_vocabulary.proofs.TellingLaws.{telling_begun, telling_more}
+use Rattle.sc_vocabulary.proofs.TellingLaws.{telling_more}
 use Rattle.sc_vocabulary.proofs.telling.tell.Goals as goal
 
 pub loop-id-preserved : goal.loop-id-preserved

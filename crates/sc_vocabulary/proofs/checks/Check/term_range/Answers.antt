@@ -1,5 +1,5 @@
 use Rattle.std.proofs.Common.{ap}
-use Rattle.sc_term_arena.specs.Nodes.{term_of, term_part}
+use Rattle.sc_term_arena.specs.Nodes.{term_part}
 use Rattle.sc_instances.specs.declared.input.Value.TheVariants.{Term}
 use Rattle.sc_vocabulary.specs.Inputs.{IsOfRange, IsPlainRange}
 use Rattle.sc_vocabulary.specs.Telling.{told_so_far}

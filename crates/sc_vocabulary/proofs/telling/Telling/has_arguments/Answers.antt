@@ -1,4 +1,3 @@
-use Rattle.std.proofs.Common.{true}
 use Rattle.sc_ground.specs.Standing.{terms_at}
 use Rattle.sc_term_arena.proofs.Placement.{kind_within}
 use Rattle.std.proofs.Common.{false}

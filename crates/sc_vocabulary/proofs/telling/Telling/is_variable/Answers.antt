@@ -1,4 +1,4 @@
-use Rattle.std.proofs.Common.{List, Contains, sym, subst}
+use Rattle.std.proofs.Common.{Contains, sym}
 use Rattle.sc_term_arena.specs.Nodes.{list_of}
 use Rattle.sc_ground.specs.declared.part.Variable.{Variable}
 use Rattle.sc_ground.specs.Standing.{terms_at}
