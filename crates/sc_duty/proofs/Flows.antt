@@ -362,9 +362,11 @@ module _ (t : Script) (is : IsScript t) (duty : Duty) (spot m : ℕ) (f : FieldI
       let second = next-is t.start t.start nothing_written st d d all-shown n (kind-model t is n k h) (x ∷ []) y one is_one in
       let second-is = who-more t.start st d (x ∷ y ∷ []) xs (who.Rec n one) (record_at n (bound (sort_of t.start n) 1)) (prefix-more (x ∷ y ∷ []) z) (refl, second) in
       let cell = next-is t.start t.start nothing_written st d d all-shown at.model (got-model at.model z other there) (x ∷ y ∷ []) z other there in
-      let leaks_so = sym (body-true xs id row (who.Rec n one) (record_at n (bound (sort_of t.start n) 1)) second-is other (bound (sort_of t.start at.model) 2) cell) ∙ e in
-      (leaked id (who.Rec n one) other (got-there (ids_of d mt) x id got)
-      (and-both _ _ h (ap (list_any (λ i. i == one)) (kind-kept n h) ∙ got-there (ids_of d n) y one is_one)) leaks_so, cell-leaks id (who.Rec n one) other leaks_so)
+      let leaks_so = sym (body-true xs id row (who.Rec n one) (record_at n (bound (sort_of t.start n) 1)) second-is other (bound (sort_of t.start at.model) 2) cell) ∙ e in (
+        leaked id (who.Rec n one) other (got-there (ids_of d mt) x id got)
+            (and-both _ _ h (ap (list_any (λ i. i == one)) (kind-kept n h) ∙ got-there (ids_of d n) y one is_one)) leaks_so,
+        cell-leaks id (who.Rec n one) other leaks_so,
+      )
 
   leaks-true : (id : ℕ) (q : Principal) (y : ℕ) → FlowAt t k d id q (cell_of at y) → Contains (reads_at id) (cell_of at y) → leaks id q y ≡ true
   leaks-true id q y g reads =

@@ -22,4 +22,3 @@ pub use laws::start_types_are_there;
 pub use numbering::Numbering;
 pub use signature::signature_of;
 pub use spots::Spot;
-

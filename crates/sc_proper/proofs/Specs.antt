@@ -380,14 +380,14 @@ models-steady s steady empty defs out e lit =
     let (known, k1, e2) = bound (in_turn (with_typed Types named) s defs) _ out e1 in
     let N = all-named s defs named n1 in
     let K = all-made Types named s defs known k1 in
-    let F = all-made Policies known s defs out e2 in
+    let out-made = all-made Policies known s defs out e2 in
     let behind : (t : Schema) (is : List ModelInfo) → with_all s is ≡ t → t.models ≡ is =
     λ t is made. sym (ap (λ (z : Schema). z.models) made) ∙ all-models s is ∙ ap (λ (ms : List ModelInfo). ms ++ is) empty in
     let models-named : named.models ≡ N.1.0 = behind named N.1.0 N.1.1 in
     let models-known : known.models ≡ K.0 = behind known K.0 K.1 in
-    let models-out : out.models ≡ F.0 = behind out F.0 F.1 in
+    let models-out : out.models ≡ out-made.0 = behind out out-made.0 out-made.1 in
     let statics-known : known.statics ≡ s.statics = sym (ap (λ (z : Schema). z.statics) K.1) ∙ all-statics s K.0 in
-    let statics-out : out.statics ≡ s.statics = sym (ap (λ (z : Schema). z.statics) F.1) ∙ all-statics s F.0 in
+    let statics-out : out.statics ≡ s.statics = sym (ap (λ (z : Schema). z.statics) out-made.1) ∙ all-statics s out-made.0 in
     let same : (name : Name) → model_named known name ≡ model_named named name =
     λ name. ap (λ (ms : List ModelInfo). option_map (λ (i : ModelInfo). i.number) (find (λ (i : ModelInfo). bytes_eq i.name name) ms)) models-known
     ∙ same-named name K.0 N.1.0 (pairs-of Types named s.next_model s.next_field defs K.0 N.1.0 K.2 N.1.2)
@@ -396,22 +396,22 @@ models-steady s steady empty defs out e lit =
     let half-known : IsHalf known = subst IsHalf K.1 (half-all Types named s defs K.0 (half-of s steady) K.2 N.0 closed.1) in
     let known-steady : IsSteady known = steady-of known half-known (subst (AllByRecursion (IsModel known)) (sym models-known) closed.0) in
     let have : HaveFields known = have-fields known known-steady in
-    let pairs = pairs-become named known same s.next_static s.next_model s.next_field defs K.0 F.0 K.2 F.2 in
+    let pairs = pairs-become named known same s.next_static s.next_model s.next_field defs K.0 out-made.0 K.2 out-made.2 in
     let keeps : Keeps (the.Static s.next_static) known out =
     keeps-found (the.Static s.next_static) known out
     (λ n other has. ap (λ (all : List StaticInfo). is_some (find (λ (i : StaticInfo). i.number == n) all)) (statics-out ∙ sym statics-known) ∙ has)
     (λ n i free is.
-    let found = pair-found named known same s.next_static n K.0 F.0 i pairs (sym (ap (λ (ms : List ModelInfo). model_in ms n) models-known) ∙ is) in
+    let found = pair-found named known same s.next_static n K.0 out-made.0 i pairs (sym (ap (λ (ms : List ModelInfo). model_in ms n) models-known) ∙ is) in
     (found.0, ap (λ (ms : List ModelInfo). model_in ms n) models-out ∙ found.1, found.2)) in
     let none : static_of known s.next_static ≡ None =
     ap (λ (all : List StaticInfo). find (λ (i : StaticInfo). i.number == s.next_static) all) statics-known ∙ next-is-free s steady.proper in
-    let long : length K.0 ≡ length F.0 =
-    all-length Types named s.next_model s.next_field defs K.0 K.2 ∙ sym (all-length Policies known s.next_model s.next_field defs F.0 F.2) in
-    let has : (j : ℕ) → s.next_model ≤ j → j < s.next_model + length F.0 → HasModel known j =
+    let long : length K.0 ≡ length out-made.0 =
+    all-length Types named s.next_model s.next_field defs K.0 K.2 ∙ sym (all-length Policies known s.next_model s.next_field defs out-made.0 out-made.2) in
+    let has : (j : ℕ) → s.next_model ≤ j → j < s.next_model + length out-made.0 → HasModel known j =
     λ j low high. ap (λ (ms : List ModelInfo). is_some (model_in ms j)) models-known ∙ made-there Types named s.next_model s.next_field defs K.0 K.2 j low (omega (arith, long)) in
-    let good = models-good known out s.next_static none keeps have s.next_model s.next_field defs F.0 has F.2 (subst (AllByRecursion ModelHasLiterals) models-out lit) in
-    let half-out : IsHalf out = subst IsHalf F.1 (half-all Policies known s defs F.0 (half-of s steady) F.2 N.0 good.1) in
-    (steady-of out half-out (subst (AllByRecursion (IsModel out)) (sym models-out) good.0), sym (ap (λ (z : Schema). z.added) F.1) ∙ all-added s F.0)
+    let good = models-good known out s.next_static none keeps have s.next_model s.next_field defs out-made.0 has out-made.2 (subst (AllByRecursion ModelHasLiterals) models-out lit) in
+    let half-out : IsHalf out = subst IsHalf out-made.1 (half-all Policies known s defs out-made.0 (half-of s steady) out-made.2 N.0 good.1) in
+    (steady-of out half-out (subst (AllByRecursion (IsModel out)) (sym models-out) good.0), sym (ap (λ (z : Schema). z.added) out-made.1) ∙ all-added s out-made.0)
 
 -- ---- statics
 

@@ -18,12 +18,7 @@ use crate::writer::{Mode, Writer};
 /// the size of what it adds.
 impl Writer {
     /// Writes that two terms are equal, or that they are not.
-    pub fn equal(
-        &mut self,
-        sign: bool,
-        t: &Term<'_>,
-        u: &Term<'_>,
-    ) -> Result<u32, MakeErr>
+    pub fn equal(&mut self, sign: bool, t: &Term<'_>, u: &Term<'_>) -> Result<u32, MakeErr>
         ensures { Makes self.old result self.new
             (atom sign (tree.equal (term_data t.now) (term_data u.now))) }
     {
@@ -37,12 +32,7 @@ impl Writer {
     }
 
     /// Writes that one number is below another, or that it is not.
-    pub fn less(
-        &mut self,
-        sign: bool,
-        t: &Term<'_>,
-        u: &Term<'_>,
-    ) -> Result<u32, MakeErr>
+    pub fn less(&mut self, sign: bool, t: &Term<'_>, u: &Term<'_>) -> Result<u32, MakeErr>
         ensures { Makes self.old result self.new
             (atom sign (tree.less (term_data t.now) (term_data u.now))) }
     {
@@ -76,12 +66,7 @@ impl Writer {
     }
 
     /// Writes that a function to truth values gives true at a term, or that it does not.
-    pub fn flag(
-        &mut self,
-        sign: bool,
-        f: u32,
-        t: &Term<'_>,
-    ) -> Result<u32, MakeErr>
+    pub fn flag(&mut self, sign: bool, f: u32, t: &Term<'_>) -> Result<u32, MakeErr>
         ensures { Makes self.old result self.new
             (atom sign (tree.flag f (term_data t.now))) }
     {
@@ -94,12 +79,7 @@ impl Writer {
     }
 
     /// Writes that a function has a value at a term, or that it has none.
-    pub fn present(
-        &mut self,
-        sign: bool,
-        f: u32,
-        t: &Term<'_>,
-    ) -> Result<u32, MakeErr>
+    pub fn present(&mut self, sign: bool, f: u32, t: &Term<'_>) -> Result<u32, MakeErr>
         ensures { Makes self.old result self.new
             (atom sign (tree.present f (term_data t.now))) }
     {

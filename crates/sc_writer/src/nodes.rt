@@ -153,11 +153,7 @@ pub(crate) fn put_constant(arena: &mut Arena, sign: bool) -> Result<u32, AllocEr
     ensures { IfOk result (IsSet arena.old arena.new (constant sign)) }
 {
     room(arena)?;
-    if sign {
-        arena.mk_yes()
-    } else {
-        arena.mk_no()
-    }
+    if sign { arena.mk_yes() } else { arena.mk_no() }
 }
 
 /// The node of a conjunction.
