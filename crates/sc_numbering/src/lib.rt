@@ -17,6 +17,8 @@ mod numbering;
 mod places;
 mod signature;
 mod spots;
+#[cfg(test)]
+mod tests;
 
 pub use laws::start_types_are_there;
 pub use numbering::Numbering;

@@ -9,6 +9,8 @@
 
 mod listing;
 mod principals;
+#[cfg(test)]
+mod tests;
 mod uses;
 
 pub use listing::duties;
