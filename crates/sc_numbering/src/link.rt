@@ -15,6 +15,6 @@ pub(crate) struct Link<'a> {
     pub(crate) target: ModelNo,
     pub(crate) sources: Places<u64>,
     pub(crate) targets: Places<u64>,
-    pub(crate) ghost from: { sources ≡ ids_of database.now source },
-    pub(crate) ghost to: { targets ≡ ids_of database.now target },
+    pub(crate) ghost sources_are: { sources ≡ ids_of database.now source },
+    pub(crate) ghost targets_are: { targets ≡ ids_of database.now target },
 }

@@ -90,14 +90,14 @@ fn link_of(
 
 impl Link<'_> {
     /// The element that a record with the field is.
-    fn from(&self, id: u64) -> u32
+    fn source_element(&self, id: u64) -> u32
         ensures { let it = self.now in result ≡ element_of it.database.now it.source id }
     {
         self.sources.place_of(id)
     }
 
     /// The element that a record is whose id the field may hold.
-    fn to(&self, id: u64) -> u32
+    fn target_element(&self, id: u64) -> u32
         ensures { let it = self.now in result ≡ element_of it.database.now it.target id }
     {
         self.targets.place_of(id)
@@ -124,7 +124,7 @@ fn entry(alloc: Global, link: &Link<'_>, value: &Value) -> Result<Option<SVal>, 
             let text = text.copy(alloc)?;
             Ok(Some(SVal::Str(text)))
         }
-        Value::Id(id) => Ok(Some(SVal::Rec(link.to(*id)))),
+        Value::Id(id) => Ok(Some(SVal::Rec(link.target_element(*id)))),
         Value::Ids(_) | Value::Nothing => Ok(None),
         Value::Just(inner) => entry(alloc, link, inner.get()),
     }
@@ -167,7 +167,7 @@ fn entries(
 
 /// The ids in a set. Another value has none.
 fn members<'a>(value: Option<&'a Value>) -> &'a [u64]
-    ensures { result.now ≡ set_of (option_map_or value_data (option_copied value) Nothing) }
+    ensures { result.now ≡ set_of (option_map_or value_data (option_copied value.entry) Nothing) }
 {
     match value {
         Some(Value::Ids(ids)) => ids.as_slice(),
@@ -194,7 +194,7 @@ fn add_pairs(
         ++ pairs_from it.database.now it.source it.target id others.now) }
 {
     for other in others {
-        pairs.push((link.from(id), link.to(*other)))?;
+        pairs.push((link.source_element(id), link.target_element(*other)))?;
     }
     Ok(())
 }
@@ -218,6 +218,36 @@ fn pairs(
     Ok(pairs)
 }
 
+/// What a field of a model has as a function.
+fn table_of(
+    alloc: Global,
+    database: &Database,
+    model: ModelNo,
+    field: &FieldInfo,
+) -> Result<Items<Option<SVal>>, AllocError>
+    ensures { IfOk result (λ table. table ≡ rule.entries_of database.now
+        (place_at model (field_info_of field.now))) }
+{
+    let link = link_of(alloc, database, model, target_of(field.ty))?;
+    let found = entries(alloc, &link, database.records(model), field.number)?;
+    Ok(Items::from_vec(found))
+}
+
+/// What a field of a model has as a set relation.
+fn relation_of(
+    alloc: Global,
+    database: &Database,
+    model: ModelNo,
+    field: &FieldInfo,
+) -> Result<Items<(u32, u32)>, AllocError>
+    ensures { IfOk result (λ relation. relation ≡ rule.pairs_of database.now
+        (place_at model (field_info_of field.now))) }
+{
+    let link = link_of(alloc, database, model, target_of(field.ty))?;
+    let found = pairs(alloc, &link, database.records(model), field.number)?;
+    Ok(Items::from_vec(found))
+}
+
 /// The functions and set relations of some fields.
 #[derive(Drop)]
 struct Tables {
@@ -239,16 +269,14 @@ impl Tables {
         ensures relations { OnOk result (self.new.relations.items ≡ self.old.relations.items
             ++ relations_at database.now (place_at model (field_info_of field.now) ∷ [])) }
     {
-        let records = database.records(model);
-        let link = link_of(alloc, database, model, target_of(field.ty))?;
         match field.ty {
             TTy::Set(_) => {
-                let pairs = pairs(alloc, &link, records, field.number)?;
-                self.relations.push(Items::from_vec(pairs))?;
+                let relation = relation_of(alloc, database, model, field)?;
+                self.relations.push(relation)?;
             }
             TTy::Plain(_) | TTy::Opt(_) => {
-                let entries = entries(alloc, &link, records, field.number)?;
-                self.functions.push(Items::from_vec(entries))?;
+                let table = table_of(alloc, database, model, field)?;
+                self.functions.push(table)?;
             }
         }
         Ok(())
