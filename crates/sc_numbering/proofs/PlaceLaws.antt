@@ -11,9 +11,9 @@ place-before test i (x ∷ xs) =
     elim (test x) as (λ b. unwrap_or (cond b (Some i) (position_from test (i + 1) xs)) (i + suc (length xs)) ≡ i + cond b 0 (suc (before test xs))) [
       | true ↦ omega arith
       | false ↦
-        let step : i + suc (length xs) ≡ (i + 1) + length xs = omega arith in
-        let back : (i + 1) + before test xs ≡ i + suc (before test xs) = omega arith in
-        ap (λ n. unwrap_or (position_from test (i + 1) xs) n) step ∙ (place-before test (i + 1) xs ∙ back)
+          let step : i + suc (length xs) ≡ (i + 1) + length xs = omega arith in
+          let back : (i + 1) + before test xs ≡ i + suc (before test xs) = omega arith in
+          ap (λ n. unwrap_or (position_from test (i + 1) xs) n) step ∙ (place-before test (i + 1) xs ∙ back)
     ]
 
 pub place-found : {A : Type 0} → (test : A → Bool) (xs : List A) (o : Option ℕ) (i : ℕ) → o ≡ Some i → o ≡ position_from test 0 xs → i ≡ before test xs

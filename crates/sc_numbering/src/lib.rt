@@ -29,4 +29,3 @@ pub use numbering::Numbering;
 pub use signature::signature_of;
 pub use spots::Spot;
 pub use structure::structure_of;
-

@@ -29,9 +29,9 @@ impl Model for Numbering {
     ghost Value = { Numbers };
 
     ghost view = { λ n. record {
-        models = n.sorts;
-        functions = n.functions;
-        relations = n.relations;
+      models = n.sorts;
+      functions = n.functions;
+      relations = n.relations;
     } };
 }
 

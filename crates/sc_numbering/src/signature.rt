@@ -57,11 +57,7 @@ impl Signatures {
     }
 
     /// Puts the fields of a model last.
-    fn add_model(
-        &mut self,
-        numbered: &Numbered<'_>,
-        model: &ModelInfo,
-    ) -> Result<(), AllocError>
+    fn add_model(&mut self, numbered: &Numbered<'_>, model: &ModelInfo) -> Result<(), AllocError>
         ensures functions { OnOk result (self.new.functions.items ≡ self.old.functions.items
             ++ functions_at (schema_of numbered.now.schema.now)
             (places_in (model_info_of model.now))) }

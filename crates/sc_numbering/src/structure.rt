@@ -55,11 +55,7 @@ fn ids_among(alloc: Global, records: &[Record]) -> Result<Vec<u64>, AllocError>
 }
 
 /// The places of the records of a model.
-fn places_of(
-    alloc: Global,
-    database: &Database,
-    model: ModelNo,
-) -> Result<Places<u64>, AllocError>
+fn places_of(alloc: Global, database: &Database, model: ModelNo) -> Result<Places<u64>, AllocError>
     ensures { IfOk result (λ places. places ≡ ids_of database.now model) }
 {
     let ids = ids_among(alloc, database.records(model))?;
@@ -131,12 +127,7 @@ fn entry(alloc: Global, link: &Link<'_>, value: &Value) -> Result<Option<SVal>, 
 }
 
 /// What a function has at a record.
-fn entry_at(
-    alloc: Global,
-    link: &Link<'_>,
-    id: u64,
-    f: FieldNo,
-) -> Result<Option<SVal>, AllocError>
+fn entry_at(alloc: Global, link: &Link<'_>, id: u64, f: FieldNo) -> Result<Option<SVal>, AllocError>
     ensures { let it = link.now in IfOk result (λ e. e ≡ entry_of it.database.now it.target
         (field_at it.database.now it.source id f)) }
 {
@@ -302,11 +293,7 @@ impl Tables {
 }
 
 /// The functions and set relations of a database.
-fn tables_of(
-    alloc: Global,
-    database: &Database,
-    models: &[ModelInfo],
-) -> Result<Tables, AllocError>
+fn tables_of(alloc: Global, database: &Database, models: &[ModelInfo]) -> Result<Tables, AllocError>
     ensures functions { IfOk result (λ tables. tables.functions.items
         ≡ tables_at database.now (flat_map places_in (map model_info_of models.now))) }
     ensures relations { IfOk result (λ tables. tables.relations.items
@@ -351,11 +338,7 @@ fn sizes_of(
 
 /// The structure of a database over a schema: the elements of a sort are the records of its model by
 /// rising id, and a function has what its field holds.
-pub fn structure_of(
-    alloc: Global,
-    database: &Database,
-    s: &Schema,
-) -> Result<Structure, AllocError>
+pub fn structure_of(alloc: Global, database: &Database, s: &Schema) -> Result<Structure, AllocError>
     ensures { IfOk result (λ st. st ≡ rule.structure_of (schema_of s.now) database.now) }
 {
     let sizes = sizes_of(alloc, database, s.models.as_slice())?;
