@@ -336,8 +336,8 @@ fn sizes_of(
     Ok(sizes)
 }
 
-/// The structure of a database over a schema: the elements of a sort are the records of its model by
-/// rising id, and a function has what its field holds.
+/// The structure of a database over a schema: the elements of a sort are the records of its model
+/// by rising id, and a function has what its field holds.
 pub fn structure_of(alloc: Global, database: &Database, s: &Schema) -> Result<Structure, AllocError>
     ensures { IfOk result (λ st. st ≡ rule.structure_of (schema_of s.now) database.now) }
 {
