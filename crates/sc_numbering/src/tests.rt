@@ -73,14 +73,14 @@ fn users_and_notes(alloc: Global) -> Result<Items<ModelInfo>, Fail> {
 }
 
 /// The numbers of the notes, of their user, of the set and of a field that is no function.
-fn numbers(alloc: Global, s: &Schema) -> Result<[u32; 4], AllocError> {
+fn numbers(alloc: Global, s: &Schema) -> Result<(u32, u32, u32, u32), AllocError> {
     let numbering = Numbering::of(alloc, s)?;
-    Ok([
+    Ok((
         numbering.sort_of(4),
         numbering.function_of(4, 7),
         numbering.relation_of(3, 6),
         numbering.function_of(3, 6),
-    ])
+    ))
 }
 
 #[test]
@@ -88,7 +88,7 @@ fn fields_are_numbered(rt: HostRuntime) -> Result<(), Fail> {
     let alloc = rt.alloc();
     let s = schema(alloc, users_and_notes(alloc)?);
     let found = numbers(alloc, &s);
-    assert!(rt; matches!(found, Ok([1, 1, 0, 2])));
+    assert!(rt; matches!(found, Ok((1, 1, 0, 2))));
     Ok(())
 }
 
