@@ -9,8 +9,6 @@
 
 mod listing;
 mod principals;
-#[cfg(test)]
-mod tests;
 mod uses;
 
 pub use listing::duties;
