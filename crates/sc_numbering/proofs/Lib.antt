@@ -1,3 +1,4 @@
 pub mod PlaceLaws
 pub mod SignatureLaws
 pub mod SpotLaws
+pub mod StructureLaws

@@ -9,16 +9,23 @@
 //! | `laws` | laws over the definitions alone |
 //! | `numbered` | a schema with its numbers |
 //! | `signature` | [`signature_of`] |
+//! | `link` | two models of a database, whose records are elements |
+//! | `structure` | [`structure_of`] |
 #![tactic(auto)]
 
 mod laws;
+mod link;
 mod numbered;
 mod numbering;
 mod places;
 mod signature;
 mod spots;
+mod structure;
+#[cfg(test)]
+mod tests;
 
 pub use laws::start_types_are_there;
 pub use numbering::Numbering;
 pub use signature::signature_of;
 pub use spots::Spot;
+pub use structure::structure_of;

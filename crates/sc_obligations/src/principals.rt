@@ -1,6 +1,7 @@
 //! Kinds of principals.
 
-ghost use Rattle.std.specs.Prelude.{◌≡◌, ◌≤◌, ℕ, [], ◌∷◌, ◌++◌, not, IfOk, OnOk, filter, length, map, is_some};
+ghost use Rattle.std.specs.Prelude.{◌≡◌, ◌≤◌, ℕ, [], ◌∷◌, ◌++◌, not, IfOk, OnOk, filter, length};
+ghost use Rattle.std.specs.Prelude.{map, is_some};
 ghost use Rattle.std.specs.List.{list_any};
 ghost use Rattle.sc_schema.specs.Kinds as rule;
 ghost use Rattle.sc_schema.specs.Schema as plain;
