@@ -1,7 +1,7 @@
 -- The steps of loops, and what they end in.
-use Rattle.std.proofs.Common.{◌≡◌, ℕ, ◌<◌, ◌+◌, Bool, true, false, ap, cond, refl, ◌∙◌, List, [], ◌∷◌, ◌++◌, Some, None, Option, length, get_or, map, arith, slice_get}
+use Rattle.std.proofs.Common.{◌≡◌, ℕ, ◌<◌, ◌+◌, Bool, true, false, ap, cond, refl, ◌∙◌, List, [], ◌∷◌, ◌++◌, Some, None, Option, length, get_or, map, arith, slice_get, take, zero, suc, append_assoc, sym, append-nil}
 use Rattle.std.specs.Prelude.{nat_lt}
-use Rattle.std.specs.List.{position, position_or_len, range_with_len}
+use Rattle.std.specs.List.{position, position_or_len, range_with_len, enumerate_from, flat_map}
 use Rattle.std.proofs.lemmas.List.FromFn.{map-range_with_len_more}
 use Rattle.std.proofs.lemmas.List.Sums.{position_or_len_is}
 use Rattle.std.proofs.lemmas.Option.{gets}
@@ -31,3 +31,54 @@ position_none p xs d before =
 -- an item by its place
 pub item_at : {X : Type 0} (xs : List X) (i : ℕ) (x d : X) → slice_get xs i ≡ Some x → get_or xs i d ≡ x
 item_at xs i x d e = grind (arith, gets)
+
+no_more : (a : ℕ) → a + 0 ≡ a
+no_more a = omega arith
+
+none_before : (i : ℕ) → 0 + i ≡ i
+none_before i = omega arith
+
+enumerated_more : {X : Type 0} (a i : ℕ) (xs : List X) (d : X) → i < length xs
+    → enumerate_from a (take (i + 1) xs) ≡ enumerate_from a (take i xs) ++ (a + i, get_or xs i d) ∷ []
+enumerated_more a i [] d lt = absurd (omega arith)
+enumerated_more a zero (x ∷ xs) d lt = ap (λ n. (n, x) ∷ []) (sym (no_more a))
+enumerated_more a (suc i) (x ∷ xs) d lt =
+    let rest = enumerated_more (a + 1) i xs d (omega arith) in
+    let e : a + 1 + i ≡ a + suc i = omega arith in
+    let next : suc i + 1 ≡ suc (i + 1) = omega arith in
+    ap (λ n. enumerate_from a (take n (x ∷ xs))) next
+    ∙ ap (λ ys. (a, x) ∷ ys) (rest ∙ ap (λ n. enumerate_from (a + 1) (take i xs) ++ (n, get_or xs i d) ∷ []) e)
+
+map-append : {X Y : Type 0} (f : X → Y) (xs ys : List X) → map f (xs ++ ys) ≡ map f xs ++ map f ys
+map-append f [] ys = refl
+map-append f (x ∷ xs) ys = ap (λ zs. f x ∷ zs) (map-append f xs ys)
+
+flat_map-append : {X Y : Type 0} (f : X → List Y) (xs ys : List X) → flat_map f (xs ++ ys) ≡ flat_map f xs ++ flat_map f ys
+flat_map-append f [] ys = refl
+flat_map-append f (x ∷ xs) ys = ap (λ zs. f x ++ zs) (flat_map-append f xs ys) ∙ sym (append_assoc (f x) (flat_map f xs) (flat_map f ys))
+
+-- one more item with its place
+pub map_enumerated_more : {X Y : Type 0} (f : ℕ × X → Y) (xs : List X) (i : ℕ) (d : X) → i < length xs
+    → map f (enumerate_from 0 (take (i + 1) xs)) ≡ map f (enumerate_from 0 (take i xs)) ++ f (i, get_or xs i d) ∷ []
+map_enumerated_more f xs i d lt =
+    ap (map f) (enumerated_more 0 i xs d lt) ∙ (map-append f (enumerate_from 0 (take i xs)) ((0 + i, get_or xs i d) ∷ []) ∙ ap (λ n. map f (enumerate_from 0 (take i xs)) ++ f (n, get_or xs i d) ∷ []) (none_before i))
+
+pub flat_map_enumerated_more : {X Y : Type 0} (f : ℕ × X → List Y) (xs : List X) (i : ℕ) (d : X) → i < length xs
+    → flat_map f (enumerate_from 0 (take (i + 1) xs)) ≡ flat_map f (enumerate_from 0 (take i xs)) ++ f (i, get_or xs i d)
+flat_map_enumerated_more f xs i d lt =
+    ap (flat_map f) (enumerated_more 0 i xs d lt)
+    ∙ (flat_map-append f (enumerate_from 0 (take i xs)) ((0 + i, get_or xs i d) ∷ [])
+    ∙ ap (λ ys. flat_map f (enumerate_from 0 (take i xs)) ++ ys) (append-nil (f (0 + i, get_or xs i d)) ∙ ap (λ n. f (n, get_or xs i d)) (none_before i)))
+
+-- a loop's step where what an item gives is put at the end
+pub flat_map_goes_on : {X Y : Type 0} (f : ℕ × X → List Y) (xs : List X) (i : ℕ) (d : X) (found new more : List Y) → i < length xs
+    → found ≡ flat_map f (enumerate_from 0 (take i xs)) → more ≡ f (i, get_or xs i d) → new ≡ found ++ more → new ≡ flat_map f (enumerate_from 0 (take (i + 1) xs))
+flat_map_goes_on f xs i d found new more lt was own e =
+    e ∙ (ap (λ ys. ys ++ more) was ∙ (ap (λ ys. flat_map f (enumerate_from 0 (take i xs)) ++ ys) own ∙ sym (flat_map_enumerated_more f xs i d lt)))
+
+pub map_goes_on : {X Y : Type 0} (f : ℕ × X → Y) (xs items : List X) (i n : ℕ) (d : X) (found new : List Y) (own : Y) → items ≡ xs → n ≡ i → i < length items
+    → found ≡ map f (enumerate_from 0 (take i xs)) → own ≡ f (n, get_or items i d) → new ≡ found ++ own ∷ [] → new ≡ map f (enumerate_from 0 (take (i + 1) xs))
+map_goes_on f xs items i n d found new own same here lt was is e =
+    let within : i < length xs = omega (arith, ap length same) in
+    let at : own ≡ f (i, get_or xs i d) = is ∙ (ap (λ n. f (n, get_or items i d)) here ∙ ap (λ ys. f (i, get_or ys i d)) same) in
+    e ∙ (ap (λ ys. ys ++ own ∷ []) was ∙ (ap (λ y. map f (enumerate_from 0 (take i xs)) ++ y ∷ []) at ∙ sym (map_enumerated_more f xs i d within)))

@@ -1,5 +1,5 @@
 -- The structure of a table whose terms are numbers: what each of its parts is, by columns over the numbers.
-use Rattle.std.specs.Prelude.{ℕ, ◌+◌, Bool, true, false, ◌&&◌, List, [], ◌∷◌, Option, None, Some, cond, length, map, max, pos, option_and_then, unwrap_or, slice_get, slice_index_or, position, ◌==◌}
+use Rattle.std.specs.Prelude.{ℕ, ◌+◌, Bool, true, false, ◌&&◌, List, [], ◌∷◌, ◌++◌, Option, None, Some, cond, length, map, max, pos, option_and_then, unwrap_or, slice_get, slice_index_or, position, ◌==◌}
 use Rattle.std.specs.List.{find, flat_map, range_with_len, enumerate_from}
 use Rattle.std.specs.Option.{option_map, option_to_list}
 use Rattle.sc_formula.specs.declared.structure.Range.{Range}
@@ -13,10 +13,12 @@ use Rattle.sc_formula.specs.declared.structure.Structure.{Structure}
 use Rattle.sc_formula.specs.Truth.{element_of}
 use Rattle.sc_terms.specs.GroundTerms.{target_of, is_number}
 use Rattle.sc_terms.specs.Listing.{unique}
+use Rattle.sc_terms.specs.Passing.{Choice}
 use Rattle.sc_term_arena.specs.declared.node.TermNode.{TermNode}
 use Rattle.sc_term_arena.specs.declared.node.TermNode.TheVariants.{Constant, Skolem, Field, Empty, Cons}
 use Rattle.sc_models.specs.declared.found.Found.{Found}
 use Rattle.sc_models.specs.declared.pairs.PairNode.{PairNode}
+use Rattle.sc_models.specs.declared.words.Words.{Words}
 use Rattle.sc_models.specs.declared.tellers.Teller.{Teller}
 
 -- the number that a term has as an element
@@ -123,6 +125,11 @@ default_at nodes elements sort = unwrap_or (option_and_then (element_in elements
 abbrev pub default_list : Signature → List TermNode → List (Option ℕ) → List ℕ
 default_list g nodes elements = map (default_at nodes elements) (range_with_len 0 g.sorts)
 
+-- what a function has at each element of its source, from all that goes before
+abbrev pub row_by : List TermNode → Found → List ℕ → List (List ℕ) → List ℕ → ℕ × FunSig → List (Option SVal)
+row_by nodes found told all defaults p =
+    row_at found.values all defaults p.1 (tellers_at found.values p.0 nodes told) (size_of_sort found.empty all p.1.from)
+
 module _ (g : Signature) (nodes : List TermNode) (found : Found) where
   abbrev pub class_in_sort : ℕ → ℕ → List ℕ
   class_in_sort sort id = cond (is_number (sort_at g nodes id) sort) (option_to_list (class_at found.values id)) []
@@ -142,17 +149,38 @@ module _ (g : Signature) (nodes : List TermNode) (found : Found) where
     abbrev pub element_list : List (Option ℕ)
     element_list = map element_at (range_with_len 0 (length nodes))
 
-  -- all rows and all relations, from all that goes before
-  module _ (told : List ℕ) (pairs : List PairNode) (all : List (List ℕ)) (elements : List (Option ℕ)) where
-    abbrev pub row_of : ℕ × FunSig → List (Option SVal)
-    row_of p = row_at found.values all (default_list g nodes elements) p.1 (tellers_at found.values p.0 nodes told) (size_of_sort found.empty all p.1.from)
+  -- the structure of what was found of these terms and pairs, where the terms of each sort have these numbers and name these elements
+  abbrev pub structure_from : Words → List (List ℕ) → List (Option ℕ) → Structure
+  structure_from w all elements = record {
+    sizes = size_list g found.empty all;
+    funs = map (row_by nodes found (w.named.items ++ w.others.items) all (default_list g nodes elements)) (enumerate_from 0 g.funs);
+    sets = map (relation_at found.related elements w.pairs.items) (range_with_len 0 (length g.sets));
+  }
 
-    abbrev pub relation_of : ℕ × SetSig → List (ℕ × ℕ)
-    relation_of p = relation_at found.related elements pairs p.0
+-- the node is the list without terms
+abbrev pub is_no_list : Option TermNode → Bool
+is_no_list None = false
+is_no_list (Some (Constant sort)) = false
+is_no_list (Some (Skolem n sort ts)) = false
+is_no_list (Some (Field h t)) = false
+is_no_list (Some Empty) = true
+is_no_list (Some (Cons t ts)) = false
 
-    abbrev pub structure_by : Structure
-    structure_by = record {
-      sizes = size_list g found.empty all;
-      funs = map row_of (enumerate_from 0 g.funs);
-      sets = map relation_of (enumerate_from 0 g.sets);
-    }
+-- the node is the variable of an `exists` below no `forall`, by its number
+abbrev pub is_own_variable : List TermNode → ℕ → Option TermNode → Bool
+is_own_variable nodes number None = false
+is_own_variable nodes number (Some (Constant sort)) = false
+is_own_variable nodes number (Some (Skolem n sort ts)) = (n == number) && is_no_list (slice_get nodes ts)
+is_own_variable nodes number (Some (Field h t)) = false
+is_own_variable nodes number (Some Empty) = false
+is_own_variable nodes number (Some (Cons t ts)) = false
+
+abbrev pub is_variable_at : List TermNode → ℕ → ℕ → Bool
+is_variable_at nodes number id = is_own_variable nodes number (slice_get nodes id)
+
+-- the elements of such variables
+abbrev pub choice_by : List TermNode → List ℕ → List (Option ℕ) → Choice
+choice_by nodes named elements = record {
+  constant = λ sort. None;
+  variable = λ number xs. option_and_then (element_in elements) (find (is_variable_at nodes number) named);
+}

@@ -3,17 +3,28 @@
 //! - `found`: `Found`, what a search found of ground terms.
 //! - `pairs`: set relations at two ground terms.
 //! - `classes`: the numbers that the terms of a sort have.
+//! - `picks`: the elements of the variables that a formula begins with.
 //! - `places`: the elements that terms name.
+//! - `relations`: the pairs of set relations.
+//! - `rows`: the values of functions.
+//! - `structure`: the structure of what was found.
 //! - `tellers`: the terms that tell of a function.
 //! - `values`: what functions have at elements.
+//! - `words`: what a table speaks of.
 #![tactic(auto)]
 
 mod classes;
 mod found;
 mod pairs;
+mod picks;
 mod places;
+mod relations;
+mod rows;
+mod structure;
 mod tellers;
 mod values;
+mod words;
 
 pub use found::Found;
 pub use pairs::PairNode;
+pub use words::Words;

@@ -14,7 +14,7 @@ use sqlite_items::Items;
 use std::alloc::{AllocError, Global};
 
 /// A number of 32 bits. A larger one counts as memory that is not there.
-fn short(number: usize) -> Result<u32, AllocError>
+pub(crate) fn short(number: usize) -> Result<u32, AllocError>
     ensures { IfOk result (λ short. short ≡ number) }
 {
     if number > u32::MAX as usize {
