@@ -1,10 +1,15 @@
 -- The steps of loops, and what they end in.
-use Rattle.std.proofs.Common.{◌≡◌, ℕ, ◌<◌, ◌+◌, Bool, true, false, ap, cond, refl, ◌∙◌, List, [], ◌∷◌, ◌++◌, Some, None, Option, length, get_or, map, arith, slice_get, take, zero, suc, append_assoc, sym, append-nil}
+use Rattle.std.proofs.Common.{◌≡◌, ℕ, ◌<◌, ◌+◌, Bool, true, false, ap, cond, refl, ◌∙◌, List, [], ◌∷◌, ◌++◌, Some, None, Option, length, get_or, map, arith, slice_get, take, zero, suc, append_assoc, sym, append-nil, inl, inr, Contains, subst}
 use Rattle.std.specs.Prelude.{nat_lt}
-use Rattle.std.specs.List.{position, position_or_len, range_with_len, enumerate_from, flat_map}
+use Rattle.std.specs.List.{position, position_or_len, range_with_len, enumerate_from, flat_map, find}
 use Rattle.std.proofs.lemmas.List.FromFn.{map-range_with_len_more}
 use Rattle.std.proofs.lemmas.List.Sums.{position_or_len_is}
-use Rattle.std.proofs.lemmas.Option.{gets}
+use Rattle.std.proofs.lemmas.List.Elements.{Contains-get_or}
+use Rattle.std.proofs.lemmas.Option.{gets, slice_get_past}
+use Rattle.std.proofs.lemmas.List.Folds.{find_at}
+use Rattle.std.proofs.lemmas.Bool.{cases_lt}
+use Rattle.sc_terms.proofs.Kept.{list_any-from}
+use Rattle.sc_terms.proofs.Lists.{find-any}
 use Rattle.std.proofs.lemmas.Bool.{le-ltb}
 use Rattle.sc_tables.proofs.Positions.{below}
 use Rattle.sc_terms.proofs.Lists.{cond_true, cond_false}
@@ -82,3 +87,24 @@ map_goes_on f xs items i n d found new own same here lt was is e =
     let within : i < length xs = omega (arith, ap length same) in
     let at : own ≡ f (i, get_or xs i d) = is ∙ (ap (λ n. f (n, get_or items i d)) here ∙ ap (λ ys. f (i, get_or ys i d)) same) in
     e ∙ (ap (λ ys. ys ++ own ∷ []) was ∙ (ap (λ y. map f (enumerate_from 0 (take i xs)) ++ y ∷ []) at ∙ sym (map_enumerated_more f xs i d within)))
+
+pub slice_within : {X : Type 0} (xs : List X) (i : ℕ) (x : X) → slice_get xs i ≡ Some x → i < length xs
+slice_within [] i x e = cc
+slice_within (y ∷ xs) zero x e = omega arith
+slice_within (y ∷ xs) (suc i) x e = omega (arith, slice_within xs i x e)
+
+pub item_there : {X : Type 0} (xs : List X) (i : ℕ) (x : X) → slice_get xs i ≡ Some x → Contains xs x
+item_there {X} xs i x e =
+    let P : X → Type 0 = λ y. Contains xs y in
+    subst P (item_at xs i x x e) (Contains-get_or xs i x (slice_within xs i x e))
+
+-- an item that passes has a first one
+pub no_position : {X : Type 0} (p : X → Bool) (xs : List X) (i : ℕ) (x : X) → slice_get xs i ≡ Some x → p x ≡ true → position p xs ≡ None → ⊥
+no_position p xs i x e passes none =
+    let there : Contains xs x = item_there xs i x e in
+    let (y, first, own) = find-any p xs (list_any-from p xs x there passes) in
+    elim (cases_lt (position_or_len p xs) (length xs)) [
+      | inl less ↦
+          let some : position p xs ≡ Some (position_or_len p xs) = cond_true (nat_lt (position_or_len p xs) (length xs)) (Some (position_or_len p xs)) None (below (position_or_len p xs) (length xs) less) in cc
+      | inr more ↦ let past : find p xs ≡ None = find_at p xs ∙ slice_get_past xs (position_or_len p xs) more in cc
+    ]

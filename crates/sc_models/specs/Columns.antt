@@ -93,18 +93,18 @@ module _ (values : List (Option SVal)) (h : ℕ) where
   abbrev pub tellers_at : List TermNode → List ℕ → List Teller
   tellers_at nodes ids = flat_map (λ id. tellers_in id (slice_get nodes id)) ids
 
-module _ (values : List (Option SVal)) (all : List (List ℕ)) (defaults : List ℕ) (sig : FunSig) (tellers : List Teller) where
+module _ (values : List (Option SVal)) (all : List (List ℕ)) (defaults : List ℕ) (sig : FunSig) where
   -- what the function has by the term of this number, if there is one
   abbrev pub told_value : Option ℕ → Option SVal
   told_value None = cond sig.partial None (Some (blank_value defaults sig.to))
   told_value (Some term) = option_map (moved_value all sig.to) (unwrap_or (slice_get values term) None)
 
   -- what the function has at an element
-  abbrev pub entry_at : ℕ → Option SVal
-  entry_at x = told_value (option_map (λ t. t.term) (find (λ t. t.class == unwrap_or (slice_get (classes_of all sig.from) x) 0) tellers))
+  abbrev pub entry_at : List Teller → ℕ → Option SVal
+  entry_at tellers x = told_value (option_map (λ t. t.term) (find (λ t. t.class == unwrap_or (slice_get (classes_of all sig.from) x) 0) tellers))
 
-  abbrev pub row_at : ℕ → List (Option SVal)
-  row_at size = map entry_at (range_with_len 0 size)
+  abbrev pub row_at : List Teller → ℕ → List (Option SVal)
+  row_at tellers size = map (entry_at tellers) (range_with_len 0 size)
 
 -- the pairs of a set relation that hold, where these are the elements that terms name
 abbrev pub related_in : List Bool → List (Option ℕ) → ℕ → ℕ × PairNode → List (ℕ × ℕ)

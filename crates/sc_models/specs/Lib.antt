@@ -1,3 +1,4 @@
 pub mod Columns
 pub mod Found
 pub mod Public
+pub mod Words

@@ -1,2 +1,3 @@
 -- The words of this crate's public contracts.
-pub use Rattle.sc_models.specs.Found.{pair_of, AreNumbers, IsFound}
+pub use Rattle.sc_models.specs.Words.{pair_at, vocabulary_at, ArePairs, IsWords}
+pub use Rattle.sc_models.specs.Found.{IsFound}
