@@ -4,3 +4,4 @@ pub mod Lists
 pub mod MadeSame
 pub mod Steps
 pub mod Uniques
+pub mod Whole

@@ -1,6 +1,7 @@
 //! The structures of what a search finds.
 //!
 //! - `found`: `Found`, what a search found of ground terms.
+//! - `making`: [`make_structure`].
 //! - `pairs`: set relations at two ground terms.
 //! - `classes`: the numbers that the terms of a sort have.
 //! - `picks`: the elements of the variables that a formula begins with.
@@ -15,6 +16,7 @@
 
 mod classes;
 mod found;
+mod making;
 mod pairs;
 mod picks;
 mod places;
@@ -26,5 +28,6 @@ mod values;
 mod words;
 
 pub use found::Found;
+pub use making::make_structure;
 pub use pairs::PairNode;
 pub use words::Words;
