@@ -1,0 +1,13 @@
+//! What a search gives.
+
+use sc_models::{Found, Words};
+use sc_term_arena::TermArena;
+
+/// A table by which a formula is read: what was found of numbered terms.
+#[derive(Drop)]
+pub struct Tabled {
+    pub terms: TermArena,
+    /// What the table speaks of.
+    pub words: Words,
+    pub found: Found,
+}
