@@ -24,7 +24,7 @@ use Rattle.sc_tables.specs.Made.{made, made_choice}
 use Rattle.sc_tables.proofs.Closing.{made_passes}
 use Rattle.sc_tables.proofs.MadeStructure.{made_structure}
 use Rattle.sc_tables.proofs.Throughout.{throughout}
-use Rattle.sc_models.specs.Words.{vocabulary_at}
+use Rattle.sc_vocabulary.specs.Words.{vocabulary_at}
 use Rattle.sc_models.specs.Found.{IsFound}
 use Rattle.sc_search.specs.declared.tabled.Tabled.{Tabled}
 use Rattle.sc_search.specs.Tabled.{IsTabled}

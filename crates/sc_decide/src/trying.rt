@@ -8,7 +8,7 @@ ghost use Rattle.sc_ground.specs.TermLists.{terms_in};
 ghost use Rattle.sc_tables.specs.Vocabulary.{AreFormed};
 ghost use Rattle.sc_terms.specs.GroundTerms.{GroundTerm};
 ghost use Rattle.sc_terms.specs.Passing.{IsSatisfiableOver};
-ghost use Rattle.sc_models.specs.Words.{IsWords};
+ghost use Rattle.sc_vocabulary.specs.Words.{IsWords};
 ghost use Rattle.sc_search.specs.Tabled.{IsTabled};
 ghost use Rattle.sc_decide.specs.Tried.{IsTriedOver};
 

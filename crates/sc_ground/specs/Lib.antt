@@ -9,4 +9,5 @@ pub mod Parts
 pub mod Public
 pub mod Standing
 pub mod TermLists
+pub mod Variables
 pub mod Walk

@@ -2,3 +2,4 @@
 pub use Rattle.sc_ground.specs.Standing.{terms_at, AreOnes, AreTermsAt}
 pub use Rattle.sc_ground.specs.TermLists.{terms_in}
 pub use Rattle.sc_ground.specs.Limited.{IsRefusal}
+pub use Rattle.sc_ground.specs.Variables.{variable_at}

@@ -17,6 +17,7 @@
 //! - `limited`: [`herbrand`] and [`shallow`], the terms within the limits.
 //! - `ground_err`: `GroundErr`.
 //! - `unique`: lists without the items that stand again.
+//! - `variables`: the variables of a formula.
 #![tactic(auto)]
 
 mod applied;
@@ -35,10 +36,13 @@ mod sizes;
 mod term_list;
 mod terms;
 mod unique;
+mod variables;
 mod walk;
 
 pub use ground_err::GroundErr;
 pub use limited::{herbrand, shallow};
-pub use listing::of_sort;
+pub use listing::{of_sort, sort_of};
+pub use part::Variable;
 pub use term_list::Terms;
 pub use terms::terms_within;
+pub use variables::variables_of;

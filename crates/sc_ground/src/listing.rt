@@ -37,7 +37,7 @@ pub(crate) fn list_term(
 }
 
 /// The sort of a term.
-pub(crate) fn sort_of(signature: &Signature, terms: &TermArena, id: u32) -> Option<u32>
+pub fn sort_of(signature: &Signature, terms: &TermArena, id: u32) -> Option<u32>
     requires { IsOne terms.now id }
     ensures { result ≡ sort_of signature.now (term_of terms.now id) }
 {

@@ -17,12 +17,12 @@ pub(crate) struct Name {
 
 /// The variable of an `exists`.
 #[derive(Debug, Drop)]
-pub(crate) struct Variable {
+pub struct Variable {
     /// The number of its quantifier, in reading order.
-    pub(crate) number: u32,
-    pub(crate) sort: u32,
+    pub number: u32,
+    pub sort: u32,
     /// The sorts of the `forall`s above it, the outermost first.
-    pub(crate) above: Items<u32>,
+    pub above: Items<u32>,
 }
 
 /// A quantifier, or a term of an atom by its number.

@@ -72,7 +72,7 @@ module _ (g : Signature) (is_there : GroundTerm → Bool) (holds holds' : List G
   more scope env sort t size = omega (arith, size, length-append env (t ∷ []), length-append scope (sort ∷ []))
 
   -- two readings of atoms that agree
-  read_also : (a : Formula) (number : ℕ) (scope : List ℕ) (env : List GroundTerm) (args : GroundTerms) → IsOver g scope a → length env ≡ length scope
+  pub read_also : (a : Formula) (number : ℕ) (scope : List ℕ) (env : List GroundTerm) (args : GroundTerms) → IsOver g scope a → length env ≡ length scope
       → Reads g is_there holds terms number env args a → Reads g is_there holds' terms number env args a
   read_also yes number scope env args over size r = tt
   read_also no number scope env args over size r = r

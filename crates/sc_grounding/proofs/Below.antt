@@ -109,9 +109,9 @@ module _ (made : Instances) (facts : List Fact) where
       let P : List (List Literal) → Type 0 = λ ties. AllBelow n ties in
       subst P (sym is) (ties_below n k xs (omega arith) (variables_below xs ps are))
 
-module _ (g : Signature) (f : Formula) (terms : List GroundTerm) (v : Vocabulary) (nodes : List Node) (made : Instances) (facts : List Fact)
+module _ (g : Signature) (f : Formula) (terms : List GroundTerm) (cs : List Clause) (nodes : List Node) (made : Instances) (facts : List Fact)
     (clauses : List (List Literal)) (instances : AreInstancesOf g nodes f terms made) (placed : ArePlaced made.gates)
-    (listed : AreGroundClauses made facts g v nodes clauses) where
+    (listed : AreGroundClauses made facts nodes cs clauses) where
   abbrev base : ℕ
   base = first_gate made facts
 

@@ -23,7 +23,8 @@ use Rattle.sc_terms.proofs.Kept.{list_all-from}
 use Rattle.sc_terms.proofs.Lists.{list_all-Contains}
 use Rattle.sc_tables.specs.Vocabulary.{Vocabulary, IsVocabulary}
 use Rattle.sc_tables.specs.Table.{Table, holds, is_there}
-use Rattle.sc_tables.specs.Facts.{Fact, Assignment, is_fact, is_met, table_for}
+use Rattle.std.proofs.lemmas.List.Elements.{Contains-append_cases}
+use Rattle.sc_tables.specs.Facts.{Fact, Assignment, Clause, is_fact, is_met, table_for}
 use Rattle.sc_tables.specs.Clauses.{base_clauses, congruence_clauses}
 use Rattle.sc_tables.specs.Models.{Model, IsLawful, assignment_of}
 use Rattle.sc_tables.proofs.Modeled.{modeled, from_modeled}
@@ -56,9 +57,9 @@ fact_value : Assignment → Option Fact → Bool
 fact_value a None = false
 fact_value a (Some p) = is_fact a p
 
-module _ (g : Signature) (f : Formula) (terms : List GroundTerm) (v : Vocabulary) (nodes : List Node) (made : Instances) (facts : List Fact)
+module _ (g : Signature) (f : Formula) (terms : List GroundTerm) (cs : List Clause) (nodes : List Node) (made : Instances) (facts : List Fact)
     (clauses : List (List Literal)) (over : IsOver g [] f) (instances : AreInstancesOf g nodes f terms made) (placed : ArePlaced made.gates)
-    (listed : AreGroundClauses made facts g v nodes clauses) (a : Assignment) where
+    (listed : AreGroundClauses made facts nodes cs clauses) (a : Assignment) where
   abbrev T : Table
   T = table_for a
 
@@ -69,7 +70,7 @@ module _ (g : Signature) (f : Formula) (terms : List GroundTerm) (v : Vocabulary
   IsRead = Reads g (is_there T) (holds T) terms 0 [] no_terms f
 
   abbrev AreMet : Type 0
-  AreMet = IsTrue (list_all (is_met a) (base_clauses g v ++ congruence_clauses g v))
+  AreMet = IsTrue (list_all (is_met a) cs)
 
   abbrev DoMeet : (ℕ → Bool) → Type 0
   DoMeet values = IsTrue (list_all (meets_clause values) clauses)
@@ -94,7 +95,7 @@ module _ (g : Signature) (f : Formula) (terms : List GroundTerm) (v : Vocabulary
 
     pub met_tables : AreMet
     met_tables =
-        list_all-from (is_met a) (base_clauses g v ++ congruence_clauses g v)
+        list_all-from (is_met a) cs
         (λ c here. let own = listed.tables c here in sym (clause_value made facts a values have own.0 c own.1) ∙ met own.0 own.2)
 
   -- the values of inputs and facts
@@ -151,33 +152,43 @@ module _ (g : Signature) (f : Formula) (terms : List GroundTerm) (v : Vocabulary
                   tie_met made facts a values have k (input_facts nodes made.terms i) ties own_ties
                   (kept k (omega (arith, slice_get_within made.inputs k i at)) ∙ (own_input k i at ∙ input_is a nodes made.terms i)) clause c
               | inr (inl (c, c_here, is)) ↦
-                  clause_value made facts a values have clause c is ∙ list_all-Contains (is_met a) (base_clauses g v ++ congruence_clauses g v) c tables c_here
+                  clause_value made facts a values have clause c is ∙ list_all-Contains (is_met a) cs c tables c_here
               | inr (inr is) ↦ subst P (sym is) (ap (λ b. b || false) root)
             ]),
       )
 
-module _ (g : Signature) (f : Formula) (terms : List GroundTerm) (v : Vocabulary) (texts : List (List ℕ)) (nodes : List Node) (made : Instances) (facts : List Fact)
+module _ (g : Signature) (f : Formula) (terms : List GroundTerm) (v : Vocabulary) (cs : List Clause) (texts : List (List ℕ)) (nodes : List Node) (made : Instances) (facts : List Fact)
     (clauses : List (List Literal)) (over : IsOver g [] f) (normal : IsNormal f) (words : IsVocabulary g f terms v)
     (are : (w : List ℕ) → Contains texts w → IsText w) (instances : AreInstancesOf g nodes f terms made) (placed : ArePlaced made.gates)
-    (listed : AreGroundClauses made facts g v nodes clauses) where
+    (listed : AreGroundClauses made facts nodes cs clauses) where
   abbrev IsGrounded : Type 0
   IsGrounded = (spare : ℕ → List ℕ) × (m : Model) × (values : ℕ → Bool) × IsLawful g texts spare m v × HaveFacts made facts (assignment_of g texts spare m) values
       × IsTrue (list_all (meets_clause values) clauses)
 
-  pub grounded : IsSatisfiableOver g f (Contains terms) → IsGrounded
-  grounded s =
+  abbrev whole : List Clause
+  whole = base_clauses g v ++ congruence_clauses g v
+
+  pub grounded : ((c : Clause) → Contains cs c → Contains whole c) → IsSatisfiableOver g f (Contains terms) → IsGrounded
+  grounded some s =
       let (spare, m, law, met, read) = modeled g f terms v over normal words texts are s in
       let a : Assignment = assignment_of g texts spare m in
-      let (values, have, meet) = read_met g f terms v nodes made facts clauses over instances placed listed a met read in
+      let fewer : IsTrue (list_all (is_met a) cs) = list_all-from (is_met a) cs (λ c here. list_all-Contains (is_met a) whole c met (some c here)) in
+      let (values, have, meet) = read_met g f terms cs nodes made facts clauses over instances placed listed a fewer read in
       (spare, m, values, law, have, meet)
 
-  pub from_grounded : IsGrounded → IsSatisfiableOver g f (Contains terms)
-  from_grounded (spare, m, values, law, have, meet) =
+  -- and back, if the clauses on one term are among them and those of congruence are met
+  pub from_grounded : ((c : Clause) → Contains (base_clauses g v) c → Contains cs c) → (spare : ℕ → List ℕ) (m : Model) (values : ℕ → Bool) → IsLawful g texts spare m v
+      → HaveFacts made facts (assignment_of g texts spare m) values → IsTrue (list_all (meets_clause values) clauses) → IsTrue (list_all (is_met (assignment_of g texts spare m)) (congruence_clauses g v))
+      → IsTrue (list_all (is_met (assignment_of g texts spare m)) whole)
+      × Reads g (is_there (table_for (assignment_of g texts spare m))) (holds (table_for (assignment_of g texts spare m))) terms 0 [] no_terms f
+  from_grounded all spare m values law have meet alike =
       let a : Assignment = assignment_of g texts spare m in
-      from_modeled g f terms v over normal words texts are (
-        spare,
-        m,
-        law,
-        met_tables g f terms v nodes made facts clauses over instances placed listed a values have meet,
-        met_read g f terms v nodes made facts clauses over instances placed listed a values have meet,
+      let met : IsTrue (list_all (is_met a) cs) = met_tables g f terms cs nodes made facts clauses over instances placed listed a values have meet in (
+        list_all-from (is_met a) whole
+            (λ c here.
+            elim (Contains-append_cases (base_clauses g v) (congruence_clauses g v) c here) [
+              | inl base ↦ list_all-Contains (is_met a) cs c met (all c base)
+              | inr later ↦ list_all-Contains (is_met a) (congruence_clauses g v) c alike later
+            ]),
+        met_read g f terms cs nodes made facts clauses over instances placed listed a values have meet,
       )

@@ -88,10 +88,7 @@ module _ (made : Instances) (facts : List Fact) where
   ties_of k None h = ((is_false k ∷ []) ∷ [], refl)
   ties_of k (Some ps) h = let (xs, are) = variables_of ps h in (tie_clauses k xs, (xs, are, refl))
 
-module _ (g : Signature) (v : Vocabulary) (nodes : List Node) (made : Instances) where
-  abbrev cs : List Clause
-  cs = base_clauses g v ++ congruence_clauses g v
-
+module _ (cs : List Clause) (nodes : List Node) (made : Instances) where
   facts_in : Clause → List Fact
   facts_in c = map (λ l. l.fact) c
 
@@ -136,7 +133,7 @@ module _ (g : Signature) (v : Vocabulary) (nodes : List Node) (made : Instances)
   own_gates = all_clauses (first_gate made facts) 0 made.gates
 
   abbrev root : List Literal
-  root = root_clause made facts g v nodes
+  root = root_clause made facts nodes cs
 
   abbrev last : List (List Literal)
   last = all_tables.0 ++ root ∷ []
@@ -156,7 +153,7 @@ module _ (g : Signature) (v : Vocabulary) (nodes : List Node) (made : Instances)
   gates_are : AreClausesOf (first_gate made facts) made.gates own_gates
   gates_are = are_clauses (first_gate made facts) made.gates own_gates refl
 
-  pub ground_clauses : (facts : List Fact) × (clauses : List (List Literal)) × AreGroundClauses made facts g v nodes clauses
+  pub ground_clauses : (facts : List Fact) × (clauses : List (List Literal)) × AreGroundClauses made facts nodes cs clauses
   ground_clauses = (
     facts,
     whole,

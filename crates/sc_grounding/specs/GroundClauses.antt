@@ -1,13 +1,10 @@
 -- The clauses that say that a formula holds at ground terms: variables are the inputs of its instances, facts and gates.
 use Rattle.std.specs.Prelude.{◌≡◌, ℕ, ◌+◌, Bool, ◌⊎◌, List, [], ◌∷◌, ◌++◌, Option, None, Some, map, length, Contains, slice_get}
 use Rattle.sc_formula.specs.declared.node.Node.{Node}
-use Rattle.sc_formula.specs.declared.structure.Signature.{Signature}
 use Rattle.sc_gates.specs.declared.gate.Gate.{Gate}
 use Rattle.sc_gates.specs.declared.gate.Literal.{Literal}
 use Rattle.sc_gates.specs.Clauses.{is_true, is_false, gate_clauses}
-use Rattle.sc_tables.specs.Vocabulary.{Vocabulary}
 use Rattle.sc_tables.specs.Facts.{Fact, Assignment, Clause, is_fact}
-use Rattle.sc_tables.specs.Clauses.{base_clauses, congruence_clauses}
 use Rattle.sc_instances.specs.declared.input.Input.{Input}
 use Rattle.sc_instances.specs.declared.instantiation.Instances.{Instances}
 use Rattle.sc_grounding.specs.InputFacts.{input_facts}
@@ -47,8 +44,8 @@ module _ (made : Instances) (facts : List Fact) where
   AreTies k None ties = ties ≡ (is_false k ∷ []) ∷ []
   AreTies k (Some ps) ties = (xs : List ℕ) × AreVariables xs ps × (ties ≡ tie_clauses k xs)
 
-  module _ (g : Signature) (v : Vocabulary) (nodes : List Node) where
-    -- clauses of the gates, of the inputs, and of the table; and that the gate of the whole formula is true
+  module _ (nodes : List Node) (cs : List Clause) where
+    -- clauses of the gates, of the inputs, and of a list of clauses on facts; and that the gate of the whole formula is true
     abbrev pub IsGateClause : List Literal → Type 0
     IsGateClause clause = (k : ℕ) × (gate : Gate) × (slice_get made.gates k ≡ Some gate) × Contains (gate_clauses first_gate k gate) clause
 
@@ -57,7 +54,7 @@ module _ (made : Instances) (facts : List Fact) where
         × AreTies k (input_facts nodes made.terms input) ties × Contains ties clause
 
     abbrev pub IsTableClause : List Literal → Type 0
-    IsTableClause clause = (c : Clause) × Contains (base_clauses g v ++ congruence_clauses g v) c × IsClauseFor clause c
+    IsTableClause clause = (c : Clause) × Contains cs c × IsClauseFor clause c
 
     abbrev pub root_clause : List Literal
     root_clause = is_true (first_gate + made.root) ∷ []
@@ -67,7 +64,7 @@ module _ (made : Instances) (facts : List Fact) where
       pub gates : (clause : List Literal) → IsGateClause clause → Contains clauses clause
       pub ties : (k : ℕ) (input : Input) → slice_get made.inputs k ≡ Some input → (ties : List (List Literal))
           × AreTies k (input_facts nodes made.terms input) ties × ((clause : List Literal) → Contains ties clause → Contains clauses clause)
-      pub tables : (c : Clause) → Contains (base_clauses g v ++ congruence_clauses g v) c → (clause : List Literal) × IsClauseFor clause c × Contains clauses clause
+      pub tables : (c : Clause) → Contains cs c → (clause : List Literal) × IsClauseFor clause c × Contains clauses clause
       pub root : Contains clauses root_clause
       pub only : (clause : List Literal) → Contains clauses clause
           → (IsGateClause clause ⊎ IsTieClause clause) ⊎ (IsTableClause clause ⊎ (clause ≡ root_clause))

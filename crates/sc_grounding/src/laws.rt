@@ -17,7 +17,7 @@ ghost use Rattle.sc_gates.specs.Gates.{ArePlaced};
 ghost use Rattle.sc_gates.specs.declared.gate.Literal.{Literal};
 ghost use Rattle.sc_terms.specs.Passing.{IsSatisfiableOver};
 ghost use Rattle.sc_tables.specs.Clauses.{base_clauses, congruence_clauses};
-ghost use Rattle.sc_tables.specs.Facts.{Assignment, Fact, is_met, table_for};
+ghost use Rattle.sc_tables.specs.Facts.{Assignment, Clause, Fact, is_met, table_for};
 ghost use Rattle.sc_tables.specs.Models.{IsLawful, Model, assignment_of};
 ghost use Rattle.sc_tables.specs.Vocabulary.{IsVocabulary, Vocabulary};
 ghost use Rattle.sc_tables.specs.Table.{Table, holds, is_there};
@@ -63,59 +63,81 @@ pub fn inputs_are_facts()
 {}
 
 /// Where the variables of facts have the values that an assignment gives these, and meet the
-/// clauses, the assignment meets those of tables and the formula is read by it; and where it is so,
-/// there are such values.
+/// clauses, the assignment meets the clauses on facts and the formula is read by it; and where it is
+/// so, there are such values.
 pub fn ground_clauses_are_readings()
-    ensures sound { (g : Signature) (f : Formula) (terms : List GroundTerm) (v : Vocabulary)
+    ensures sound { (g : Signature) (f : Formula) (terms : List GroundTerm) (cs : List Clause)
         (nodes : List Node) (made : Instances) (facts : List Fact) (clauses : List (List Literal))
         (a : Assignment) (values : ℕ → Bool) →
         IsOver g [] f → AreInstancesOf g nodes f terms made → ArePlaced made.gates →
-        AreGroundClauses made facts g v nodes clauses →
+        AreGroundClauses made facts nodes cs clauses →
         HaveFacts made facts a values → IsTrue (list_all (meets_clause values) clauses) →
-        IsTrue (list_all (is_met a) (base_clauses g v ++ congruence_clauses g v))
+        IsTrue (list_all (is_met a) cs)
         × Reads g (is_there (table_for a)) (holds (table_for a)) terms 0 [] no_terms f }
-    ensures complete { (g : Signature) (f : Formula) (terms : List GroundTerm) (v : Vocabulary)
+    ensures complete { (g : Signature) (f : Formula) (terms : List GroundTerm) (cs : List Clause)
         (nodes : List Node) (made : Instances) (facts : List Fact) (clauses : List (List Literal))
         (a : Assignment) →
         IsOver g [] f → AreInstancesOf g nodes f terms made → ArePlaced made.gates →
-        AreGroundClauses made facts g v nodes clauses →
-        IsTrue (list_all (is_met a) (base_clauses g v ++ congruence_clauses g v)) →
+        AreGroundClauses made facts nodes cs clauses →
+        IsTrue (list_all (is_met a) cs) →
         Reads g (is_there (table_for a)) (holds (table_for a)) terms 0 [] no_terms f →
         (values : ℕ → Bool) × HaveFacts made facts a values
         × IsTrue (list_all (meets_clause values) clauses) }
 {}
 
-/// Some structure passes a formula over a list of terms exactly where decision procedures find a
-/// lawful model, and a search values that meet the clauses, in which facts are as in the model.
+/// If some structure passes a formula over a list of terms, then decision procedures find a lawful
+/// model, and a search values that meet the clauses, in which facts are as in the model; whichever
+/// of the clauses of the table are listed.
+///
+/// If there are such values, and those on one term are listed and the model meets those of
+/// congruence, listed or not, then the model meets them all, and the formula is read by it.
 pub fn ground_clauses_are_complete()
-    ensures { (g : Signature) (f : Formula) (terms : List GroundTerm) (v : Vocabulary)
-        (texts : List (List ℕ)) (nodes : List Node) (made : Instances) (facts : List Fact)
-        (clauses : List (List Literal)) →
+    ensures found { (g : Signature) (f : Formula) (terms : List GroundTerm) (v : Vocabulary)
+        (cs : List Clause) (texts : List (List ℕ)) (nodes : List Node) (made : Instances)
+        (facts : List Fact) (clauses : List (List Literal)) →
         IsOver g [] f → IsNormal f → IsVocabulary g f terms v →
         ((w : List ℕ) → Contains texts w → IsText w) →
         AreInstancesOf g nodes f terms made → ArePlaced made.gates →
-        AreGroundClauses made facts g v nodes clauses →
-        (IsSatisfiableOver g f (Contains terms) ↔ ((spare : ℕ → List ℕ) × (m : Model)
+        AreGroundClauses made facts nodes cs clauses →
+        ((c : Clause) → Contains cs c →
+        Contains (base_clauses g v ++ congruence_clauses g v) c) →
+        IsSatisfiableOver g f (Contains terms) → (spare : ℕ → List ℕ) × (m : Model)
         × (values : ℕ → Bool) × IsLawful g texts spare m v
         × HaveFacts made facts (assignment_of g texts spare m) values
-        × IsTrue (list_all (meets_clause values) clauses))) }
+        × IsTrue (list_all (meets_clause values) clauses) }
+    ensures enough { (g : Signature) (f : Formula) (terms : List GroundTerm) (v : Vocabulary)
+        (cs : List Clause) (texts : List (List ℕ)) (nodes : List Node) (made : Instances)
+        (facts : List Fact) (clauses : List (List Literal)) (spare : ℕ → List ℕ) (m : Model)
+        (values : ℕ → Bool) →
+        IsOver g [] f → IsNormal f → IsVocabulary g f terms v →
+        ((w : List ℕ) → Contains texts w → IsText w) →
+        AreInstancesOf g nodes f terms made → ArePlaced made.gates →
+        AreGroundClauses made facts nodes cs clauses →
+        ((c : Clause) → Contains (base_clauses g v) c → Contains cs c) →
+        IsLawful g texts spare m v → HaveFacts made facts (assignment_of g texts spare m) values →
+        IsTrue (list_all (meets_clause values) clauses) →
+        IsTrue (list_all (is_met (assignment_of g texts spare m)) (congruence_clauses g v)) →
+        IsTrue (list_all (is_met (assignment_of g texts spare m))
+        (base_clauses g v ++ congruence_clauses g v))
+        × Reads g (is_there (table_for (assignment_of g texts spare m)))
+        (holds (table_for (assignment_of g texts spare m))) terms 0 [] no_terms f }
 {}
 
-/// Instances and a vocabulary have a list of facts, and a list of clauses.
+/// Instances and a list of clauses on facts have a list of facts, and a list of clauses.
 pub fn ground_clauses_exist()
-    ensures { (g : Signature) (v : Vocabulary) (nodes : List Node) (made : Instances) →
+    ensures { (cs : List Clause) (nodes : List Node) (made : Instances) →
         (facts : List Fact) × (clauses : List (List Literal))
-        × AreGroundClauses made facts g v nodes clauses }
+        × AreGroundClauses made facts nodes cs clauses }
 {}
 
 /// The variables of the clauses are those of inputs, facts and gates, so others can be added behind
 /// them.
 pub fn ground_clauses_are_below()
-    ensures { (g : Signature) (f : Formula) (terms : List GroundTerm) (v : Vocabulary)
+    ensures { (g : Signature) (f : Formula) (terms : List GroundTerm) (cs : List Clause)
         (nodes : List Node) (made : Instances) (facts : List Fact) (clauses : List (List Literal))
         (clause : List Literal) (l : Literal) →
         AreInstancesOf g nodes f terms made → ArePlaced made.gates →
-        AreGroundClauses made facts g v nodes clauses →
+        AreGroundClauses made facts nodes cs clauses →
         Contains clauses clause → Contains clause l →
         l.var < first_gate made facts + length made.gates }
 {}

@@ -75,8 +75,9 @@ module _ (g : Signature) (nodes : List Node) (shapes : List Shape) (listed : Lis
 
   -- the gate of the root
   pub work_done : (ts : List GroundTerm) (f : Formula) (root : Instance) (w : Work) (gate : ℕ) (made : Instances) → IsWorkFor g nodes shapes listed ts f root w → Contains w.memo.made.entries (root, gate)
-      → made.terms ≡ w.board.terms → made.inputs ≡ w.board.inputs → made.gates ≡ w.board.gates → made.root ≡ gate → AreInstancesOf g nodes f ts made
-  work_done ts f root w gate made h c t i e r =
+      → made.terms ≡ w.board.terms → made.inputs ≡ w.board.inputs → made.gates ≡ w.board.gates → made.root ≡ gate
+      → made.listed.items ≡ listed → AreInstancesOf g nodes f ts made
+  work_done ts f root w gate made h c t i e r l =
       let means : Means nodes w.board (instance_reading g (terms_at w.board.terms listed) nodes w.board.terms root) gate = (h.ready.memo root gate c).1 in
       let P : Board → Type 0 = λ b. (gate < length b.gates) × HaveInputsBelow (length b.inputs) b.gates
       × ((is_there : GroundTerm → Bool) (holds : GroundAtom → Bool) (v : ℕ → Bool) → AreInputsOf nodes b.terms is_there holds b.inputs v → (value_of v b.gates gate ≡ true) ↔ Reads g is_there (holds_at holds) ts 0 [] no_terms f) in
@@ -95,7 +96,10 @@ module _ (g : Signature) (nodes : List Node) (shapes : List Shape) (listed : Lis
       let whole = subst P same all in
       let R : ℕ → Type 0 = λ k. k < length made.gates in
       let Q : ℕ → Type 0 = λ k. (is_there : GroundTerm → Bool) (holds : GroundAtom → Bool) (v : ℕ → Bool) → AreInputsOf nodes made.terms is_there holds made.inputs v → (value_of v made.gates k ≡ true) ↔ Reads g is_there (holds_at holds) ts 0 [] no_terms f in
-      record { there = subst R (sym r) whole.0; below = whole.1; reads = subst Q (sym r) whole.2 }
+      let stand : AreTermsAt w.board.terms listed ts = record { ones = h.ready.ones; are = h.terms } in
+      let L : List ℕ → Type 0 = λ ids. AreTermsAt w.board.terms ids ts in
+      let T : List TermNode → Type 0 = λ terms. AreTermsAt terms made.listed.items ts in
+      record { there = subst R (sym r) whole.0; below = whole.1; listed = subst T (sym t) (subst L (sym l) stand); reads = subst Q (sym r) whole.2 }
 
   -- what is missing are fewer
   pub ready_fewer : (a b : Work) (n : ℕ) → b.board ≡ a.board → b.memo.made.entries ≡ a.memo.made.entries → b.missing.items ≡ take n a.missing.items → IsReady g nodes shapes listed a → IsReady g nodes shapes listed b

@@ -13,16 +13,18 @@ use Rattle.sc_instances.specs.declared.work.Work.{Work}
 use Rattle.sc_instances.specs.Boards.{Grows}
 use Rattle.sc_instances.specs.GroundAtoms.{GroundAtom, holds_at}
 use Rattle.sc_instances.specs.Inputs.{AreInputsOf}
-use Rattle.sc_ground.specs.Standing.{terms_at}
+use Rattle.sc_ground.specs.Standing.{AreTermsAt, terms_at}
 use Rattle.sc_instances.specs.declared.instance.Instance.{Instance}
 use Rattle.sc_instances.specs.Instances.{IsInstance, IsReady, instance_reading}
 use Rattle.sc_instances.specs.Readings.{reading}
 
 -- the gate of the root is true just where the formula is read true over the terms, whichever terms are there and whichever atoms hold,
--- if the variables have the values of what they stand for; and all variables stand for something
+-- if the variables have the values of what they stand for; and all variables stand for something. The terms are those with the listed
+-- numbers
 pub record AreInstancesOf (g : Signature) (nodes : List Node) (f : Formula) (ts : List GroundTerm) (made : Instances) : Type 0 where
   pub there : made.root < length made.gates
   pub below : HaveInputsBelow (length made.inputs) made.gates
+  pub listed : AreTermsAt made.terms made.listed.items ts
   pub reads : (is_there : GroundTerm → Bool) (holds : GroundAtom → Bool) (v : ℕ → Bool) → AreInputsOf nodes made.terms is_there holds made.inputs v
       → (value_of v made.gates made.root ≡ true) ↔ Reads g is_there (holds_at holds) ts 0 [] no_terms f
 

@@ -24,6 +24,8 @@ use std::alloc::{AllocError, Global};
 pub struct Instances {
     /// The ground terms that the inputs speak of.
     pub terms: TermArena,
+    /// The numbers of those over which the formula was written out.
+    pub listed: Vec<u32>,
     /// What the variables of the gates stand for.
     pub inputs: Inputs,
     pub gates: Gates,
@@ -110,7 +112,7 @@ pub fn instantiate(
     let root = instance_of(alloc, &mut work.board.terms, shape, id, above)?;
     'steps: for _ in 0..u64::MAX {
         if let Some(gate) = work.memo.find(root) {
-            return Ok(finished(work, gate));
+            return Ok(finished(work, listed, gate));
         }
         step(alloc, source, &mut work, root)?;
     }
@@ -118,8 +120,9 @@ pub fn instantiate(
 }
 
 /// The gate of the whole formula, with what it is made of.
-fn finished(work: Work, root: u32) -> Instances
+fn finished(work: Work, listed: Vec<u32>, root: u32) -> Instances
     ensures terms { result.terms ≡ work.board.terms }
+    ensures listed { result.listed.items ≡ listed.items }
     ensures inputs { result.inputs ≡ work.board.inputs }
     ensures gates { result.gates ≡ work.board.gates }
     ensures root { result.root ≡ root }
@@ -136,6 +139,7 @@ fn finished(work: Work, root: u32) -> Instances
     } = board;
     Instances {
         terms,
+        listed,
         inputs,
         gates,
         root,

@@ -21,8 +21,8 @@ use Rattle.sc_tables.specs.Vocabulary.{Vocabulary}
 use Rattle.sc_tables.specs.Table.{Table}
 use Rattle.sc_tables.specs.Made.{class_of, class_in, classes, made_size, place, element, default, made_value, blank}
 use Rattle.sc_models.specs.declared.found.Found.{Found}
-use Rattle.sc_models.specs.declared.words.Words.{Words}
-use Rattle.sc_models.specs.Words.{vocabulary_at}
+use Rattle.sc_vocabulary.specs.declared.words.Words.{Words}
+use Rattle.sc_vocabulary.specs.Words.{vocabulary_at}
 use Rattle.sc_models.specs.Found.{IsFound}
 use Rattle.sc_models.specs.Columns.{class_at, node_sort, sort_at, is_constant, classes_of, place_in, moved_value, blank_value, element_in, size_of_sort, default_at, default_list, class_in_sort, classes_at, class_lists, element_at, element_list, size_list}
 use Rattle.sc_models.proofs.Lists.{range_same, slice_get-range}

@@ -19,8 +19,8 @@ use Rattle.sc_tables.specs.Vocabulary.{Vocabulary}
 use Rattle.sc_tables.specs.Table.{Table}
 use Rattle.sc_tables.specs.Made.{element, are_at, is_variable, made_choice}
 use Rattle.sc_models.specs.declared.found.Found.{Found}
-use Rattle.sc_models.specs.declared.words.Words.{Words}
-use Rattle.sc_models.specs.Words.{vocabulary_at}
+use Rattle.sc_vocabulary.specs.declared.words.Words.{Words}
+use Rattle.sc_vocabulary.specs.Words.{vocabulary_at}
 use Rattle.sc_models.specs.Found.{IsFound}
 use Rattle.sc_models.specs.Columns.{element_in, class_lists, element_list, is_no_list, is_own_variable, is_variable_at, choice_by}
 use Rattle.sc_models.proofs.Agreement.{node_at, term_at_node, column_same}

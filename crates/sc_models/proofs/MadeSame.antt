@@ -28,10 +28,10 @@ use Rattle.sc_tables.specs.Vocabulary.{Vocabulary, Pair}
 use Rattle.sc_tables.specs.Table.{Table}
 use Rattle.sc_tables.specs.Made.{class_of, classes, made_size, place, element, default, made_value, blank, is_at, made_entry, made_function, made_relation}
 use Rattle.sc_models.specs.declared.found.Found.{Found}
-use Rattle.sc_models.specs.declared.pairs.PairNode.{PairNode}
+use Rattle.sc_vocabulary.specs.declared.words.PairNode.{PairNode}
 use Rattle.sc_models.specs.declared.tellers.Teller.{Teller}
-use Rattle.sc_models.specs.declared.words.Words.{Words}
-use Rattle.sc_models.specs.Words.{vocabulary_at, pair_at, ArePairs}
+use Rattle.sc_vocabulary.specs.declared.words.Words.{Words}
+use Rattle.sc_vocabulary.specs.Words.{vocabulary_at, pair_at, ArePairs}
 use Rattle.sc_models.specs.Found.{IsFound}
 use Rattle.sc_models.specs.Columns.{class_at, is_constant, classes_of, place_in, moved_value, blank_value, element_in, size_of_sort, tellers_from, tellers_in, tellers_at, told_value, entry_at, row_at, related_in, relation_at, default_at, default_list, row_by, class_lists, element_list}
 use Rattle.sc_models.proofs.Steps.{no_position}

@@ -24,9 +24,9 @@ use Rattle.sc_tables.specs.Vocabulary.{Vocabulary, Pair, IsVocabulary}
 use Rattle.sc_tables.specs.Table.{Table}
 use Rattle.sc_tables.specs.Made.{made, made_choice}
 use Rattle.sc_models.specs.declared.found.Found.{Found}
-use Rattle.sc_models.specs.declared.pairs.PairNode.{PairNode}
-use Rattle.sc_models.specs.declared.words.Words.{Words}
-use Rattle.sc_models.specs.Words.{vocabulary_at, pair_at, IsWords}
+use Rattle.sc_vocabulary.specs.declared.words.PairNode.{PairNode}
+use Rattle.sc_vocabulary.specs.declared.words.Words.{Words}
+use Rattle.sc_vocabulary.specs.Words.{vocabulary_at, pair_at, IsWords}
 use Rattle.sc_models.specs.Found.{IsFound}
 use Rattle.sc_models.specs.Columns.{class_lists, element_list, structure_from, choice_by}
 use Rattle.sc_models.proofs.Steps.{item_there}

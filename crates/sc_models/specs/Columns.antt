@@ -17,8 +17,8 @@ use Rattle.sc_terms.specs.Passing.{Choice}
 use Rattle.sc_term_arena.specs.declared.node.TermNode.{TermNode}
 use Rattle.sc_term_arena.specs.declared.node.TermNode.TheVariants.{Constant, Skolem, Field, Empty, Cons}
 use Rattle.sc_models.specs.declared.found.Found.{Found}
-use Rattle.sc_models.specs.declared.pairs.PairNode.{PairNode}
-use Rattle.sc_models.specs.declared.words.Words.{Words}
+use Rattle.sc_vocabulary.specs.declared.words.PairNode.{PairNode}
+use Rattle.sc_vocabulary.specs.declared.words.Words.{Words}
 use Rattle.sc_models.specs.declared.tellers.Teller.{Teller}
 
 -- the number that a term has as an element

@@ -8,7 +8,7 @@ use Rattle.sc_term_arena.specs.declared.node.TermNode.TheVariants.{Constant}
 use Rattle.sc_term_arena.specs.Nodes.{term_of, IsOne}
 use Rattle.sc_tables.specs.Table.{Table}
 use Rattle.sc_models.specs.declared.found.Found.{Found}
-use Rattle.sc_models.specs.declared.pairs.PairNode.{PairNode}
+use Rattle.sc_vocabulary.specs.declared.words.PairNode.{PairNode}
 
 -- the table has what was found: of each numbered term its value, of each pair whether it is related, and of each sort whether it is
 -- empty; a constant that has no number is not there

@@ -1,4 +1,3 @@
 pub mod Columns
 pub mod Found
 pub mod Public
-pub mod Words

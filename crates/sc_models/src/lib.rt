@@ -2,7 +2,6 @@
 //!
 //! - `found`: `Found`, what a search found of ground terms.
 //! - `making`: [`make_structure`].
-//! - `pairs`: set relations at two ground terms.
 //! - `classes`: the numbers that the terms of a sort have.
 //! - `picks`: the elements of the variables that a formula begins with.
 //! - `places`: the elements that terms name.
@@ -11,13 +10,11 @@
 //! - `structure`: the structure of what was found.
 //! - `tellers`: the terms that tell of a function.
 //! - `values`: what functions have at elements.
-//! - `words`: what a table speaks of.
 #![tactic(auto)]
 
 mod classes;
 mod found;
 mod making;
-mod pairs;
 mod picks;
 mod places;
 mod relations;
@@ -25,9 +22,6 @@ mod rows;
 mod structure;
 mod tellers;
 mod values;
-mod words;
 
 pub use found::Found;
 pub use making::make_structure;
-pub use pairs::PairNode;
-pub use words::Words;

@@ -9,14 +9,14 @@ ghost use Rattle.sc_tables.specs.Made.{made, made_choice};
 ghost use Rattle.sc_tables.specs.Table.{Table};
 ghost use Rattle.sc_tables.specs.Vocabulary.{IsVocabulary};
 ghost use Rattle.sc_models.specs.Found.{IsFound};
-ghost use Rattle.sc_models.specs.Words.{IsWords, vocabulary_at};
+ghost use Rattle.sc_vocabulary.specs.Words.{IsWords, vocabulary_at};
 
 use crate::classes::class_lists;
 use crate::found::Found;
 use crate::picks::picks;
 use crate::places::element_list;
 use crate::structure::structure_from;
-use crate::words::Words;
+use sc_vocabulary::Words;
 use sc_formula::{Arena, Signature, Structure};
 use sc_term_arena::TermArena;
 use sqlite_items::Items;

@@ -8,7 +8,7 @@ use crate::places::{default_list, short, size_list};
 use crate::relations::relations;
 use crate::rows::rows;
 use crate::values::Source;
-use crate::words::Words;
+use sc_vocabulary::Words;
 use sc_formula::{Signature, Structure};
 use sc_term_arena::TermArena;
 use sqlite_items::Items;

@@ -8,7 +8,7 @@ use Rattle.sc_tables.specs.Consistent.{IsConsistent}
 use Rattle.sc_tables.specs.Table.{Table, is_there, holds}
 use Rattle.sc_tables.specs.Vocabulary.{IsVocabulary}
 use Rattle.sc_models.specs.Found.{IsFound}
-use Rattle.sc_models.specs.Words.{IsWords, vocabulary_at}
+use Rattle.sc_vocabulary.specs.Words.{IsWords, vocabulary_at}
 use Rattle.sc_search.specs.declared.tabled.Tabled.{Tabled}
 
 -- the numbers are those of a vocabulary of the formula over the terms, which names no more than these where these are said to be closed; and what

@@ -1,6 +1,7 @@
 //! What a search gives.
 
-use sc_models::{Found, Words};
+use sc_models::Found;
+use sc_vocabulary::Words;
 use sc_term_arena::TermArena;
 
 /// A table by which a formula is read: what was found of numbered terms.

@@ -30,7 +30,6 @@ use Rattle.sc_tables.proofs.Classes.{at_there}
 use Rattle.sc_tables.proofs.MadeValues.{element_made}
 use Rattle.sc_tables.proofs.MadeStructure.{made_structure, made_fits}
 use Rattle.sc_tables.proofs.MadeAtoms.{atom_made}
-use Rattle.sc_tables.proofs.Transfer.{read_also}
 
 -- a list has all that is applied to its terms
 module _ (g : Signature) (f : Formula) (over : IsOver g [] f) (terms : List GroundTerm) where
@@ -80,19 +79,17 @@ module _ (g : Signature) (f : Formula) (terms : List GroundTerm) (v : Vocabulary
       let c : Choice = made_choice g v table in
       read_passes g f s c terms (spoken g f over terms) (λ t. is_some (element_named s c t)) (holds (table_of s c)) (own_table g f s c (spoken g f over terms)) words_speak over normal
       (made_fits g f terms v table over words fits)
-      (read_also g v terms words.ranged (is_there table) (λ t. is_some (element_named s c t)) (holds table) (holds (table_of s c))
+      (words.decides (is_there table) (λ t. is_some (element_named s c t)) table (table_of s c)
       (λ t there. at_there g f terms v table over words fits t (words.sorted t there).0 there (words.sorted t there).1
       ∙ sym (ap is_some (element_made g f terms v table over words fits t there)))
-      (λ a scope env over' above covers. atom_made g f terms v table over words fits scope env above a over' covers)
-      f 0 [] [] no_terms over tt words.covers r)
+      (λ a scope env over' above covers. atom_made g f terms v table over words fits scope env above a over' covers) r)
 
   -- to a table
   pub table_reads : (s : Structure) (c : Choice) → IsStructure g s → PassesWith g f (Contains terms) s c
       → Reads g (is_there (table_of s c)) (holds (table_of s c)) terms 0 [] no_terms f
   table_reads s c structure p =
-      read_also g v terms words.ranged (λ t. is_some (element_named s c t)) (is_there (table_of s c)) (holds (table_of s c)) (holds (table_of s c))
+      words.decides (λ t. is_some (element_named s c t)) (is_there (table_of s c)) (table_of s c) (table_of s c)
       (λ t there. sym (named_there g f s c terms v structure p.choice words t there)) (λ a scope env over' above covers. refl)
-      f 0 [] [] no_terms over tt words.covers
       (over_reads g f s c terms (spoken g f over terms) (λ t. is_some (element_named s c t)) (holds (table_of s c)) (own_table g f s c (spoken g f over terms)) words_speak
       (λ t sort x there kind named. inside g f s c terms v structure p.choice words t (words.ranged t there) sort x kind named)
       f 0 [] [] [] [] [] no_terms []

@@ -143,5 +143,5 @@ module _ (g : Signature) (f : Formula) (terms : List GroundTerm) (v : Vocabulary
 
   pub reads_also : IsOver g [] f → Reads g (is_there table) (holds table) terms 0 [] no_terms f → Reads g (is_there new) (holds new) terms 0 [] no_terms f
   reads_also over r =
-      read_also g v terms words.ranged (is_there table) (is_there new) (holds table) (holds new) (λ t c. there_alike t (named_told t c))
-      (λ a scope env over' above covers. atom_also scope env above a covers) f 0 [] [] no_terms over tt words.covers r
+      words.decides (is_there table) (is_there new) table new (λ t c. there_alike t (named_told t c))
+      (λ a scope env over' above covers. atom_also scope env above a covers) r

@@ -6,14 +6,8 @@ use Rattle.sc_formula.specs.Trees.{Formula, yes, no, equal, less, has, flag, pre
 use Rattle.sc_terms.specs.GroundTerms.{GroundTerm, GroundTerms, skolem, and_last, sort_of}
 use Rattle.sc_terms.specs.Parts.{quantifiers}
 use Rattle.sc_terms.specs.Reading.{Reads}
+pub use Rattle.sc_tables.specs.Vocabulary.{AreTerms}
 use Rattle.sc_tables.specs.Vocabulary.{Vocabulary, Covers, CoversAtom}
-
--- terms of these sorts, from the list
-abbrev pub AreTerms : Signature → List GroundTerm → List ℕ → List GroundTerm → Type 0
-AreTerms g terms [] [] = Unit {0}
-AreTerms g terms [] (t ∷ ts) = ⊥
-AreTerms g terms (sort ∷ sorts) [] = ⊥
-AreTerms g terms (sort ∷ sorts) (t ∷ ts) = (Contains terms t × (sort_of g t ≡ Some sort)) × AreTerms g terms sorts ts
 
 pub terms_more : (g : Signature) (terms : List GroundTerm) (sorts : List ℕ) (ts : List GroundTerm) (sort : ℕ) (t : GroundTerm) → AreTerms g terms sorts ts
     → Contains terms t → sort_of g t ≡ Some sort → AreTerms g terms (sorts ++ sort ∷ []) (ts ++ t ∷ [])

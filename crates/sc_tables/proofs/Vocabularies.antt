@@ -16,7 +16,8 @@ use Rattle.sc_terms.specs.Universe.{HasEach}
 use Rattle.sc_terms.proofs.Lists.{Contains-head, Contains-cons_cases, Contains-none, Contains-flat_map, flat_map-Contains}
 use Rattle.sc_terms.proofs.Typed.{to_option, from_option, in_element, to_element, target_at}
 use Rattle.sc_tables.specs.Vocabulary.{AreFormed, only, Vocabulary, Pair, IsVocabulary, IsFormed, IsOther, IsFunctionAt, IsValuedIn, CoversTerm, CoversAtom, term_at}
-use Rattle.sc_tables.proofs.Transfer.{AreTerms}
+use Rattle.sc_tables.specs.Table.{holds}
+use Rattle.sc_tables.proofs.Transfer.{AreTerms, read_also}
 use Rattle.sc_tables.proofs.MadeAtoms.{term_named}
 use Rattle.sc_tables.proofs.Instances.{Instance, IsGood, instances, names, covers_from, walk}
 
@@ -374,7 +375,9 @@ module _ (g : Signature) (f : Formula) (terms : List GroundTerm) where
     pub is_vocabulary : IsVocabulary g f terms words
     is_vocabulary = record {
       ranged = ranged_named;
-      covers = covers_from g f terms words f 0 [] no_terms (λ i c. (whole i c).0) names_named;
+      decides = λ is_there is_there' one two there atoms r.
+          read_also g words terms ranged_named is_there is_there' (holds one) (holds two) there atoms f 0 [] [] no_terms over tt
+          (covers_from g f terms words f 0 [] no_terms (λ i c. (whole i c).0) names_named) r;
       sorted = λ t c. (fine t c).1;
       formed = λ t c. (fine t c).0;
       functions = λ t c.

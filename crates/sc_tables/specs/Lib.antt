@@ -4,5 +4,6 @@ pub mod Facts
 pub mod Made
 pub mod Models
 pub mod Public
+pub mod Spoken
 pub mod Table
 pub mod Vocabulary

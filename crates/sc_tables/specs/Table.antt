@@ -5,7 +5,7 @@ use Rattle.sc_formula.specs.declared.structure.SVal.TheVariants.{Num, Str}
 use Rattle.sc_formula.specs.Trees.{Term, Formula, bound, num, str, app, yes, no, equal, less, has, flag, present, negation, both, either, exists, forall}
 use Rattle.sc_formula.specs.Truth.{both_pass, are_equal, number_of, is_true_value}
 use Rattle.sc_terms.specs.GroundTerms.{GroundTerm, GroundTerms, no_terms, term_and}
-use Rattle.sc_tables.specs.Vocabulary.{term_at}
+use Rattle.sc_tables.specs.Spoken.{term_at}
 
 -- what each term has: nothing where it is not there, and else a truth value, a number, a text, or an element, which is a number here
 -- that two terms of a sort share where they name one element; which set relations hold at two terms; and which sorts are empty

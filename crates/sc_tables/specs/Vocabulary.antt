@@ -1,38 +1,16 @@
--- What a table speaks of.
-use Rattle.std.specs.Prelude.{◌≡◌, ℕ, ◌+◌, List, [], ◌∷◌, ◌++◌, Option, None, Some, Contains, IsTrue, slice_get}
-use Rattle.std.specs.Option.{option_map}
+-- What a table speaks of, where a formula is read over terms.
+use Rattle.std.specs.Prelude.{◌≡◌, ℕ, ◌+◌, Bool, List, [], ◌∷◌, ◌++◌, Option, None, Some, Contains, IsTrue, slice_get}
 use Rattle.sc_formula.specs.declared.structure.FunSig.{FunSig}
 use Rattle.sc_formula.specs.declared.structure.SetSig.{SetSig}
 use Rattle.sc_formula.specs.declared.structure.Signature.{Signature}
-use Rattle.sc_formula.specs.Over.{IsFunction}
+use Rattle.sc_formula.specs.Over.{IsFunction, IsOver}
 use Rattle.sc_formula.specs.Trees.{Term, Formula, bound, num, str, app, yes, no, equal, less, has, flag, present, negation, both, either, exists, forall}
 use Rattle.sc_terms.specs.GroundTerms.{GroundTerm, GroundTerms, constant, skolem, field, no_terms, and_last, sort_of}
 use Rattle.sc_terms.specs.Parts.{quantifiers}
 use Rattle.sc_terms.specs.Universe.{variables_of, is_needed, HaveSorts, HasEach}
-
--- a set relation at two terms
-pub record Pair : Type 0 where
-  pub relation : ℕ
-  pub holder : GroundTerm
-  pub member : GroundTerm
-
--- the terms that name elements; further functions at these, which have numbers, texts or truth values, or of which it only matters
--- whether they have anything; and the set relations at two of the first terms
-pub record Vocabulary : Type 0 where
-  pub named : List GroundTerm
-  pub others : List GroundTerm
-  pub pairs : List Pair
-
--- all terms
-abbrev pub told : Vocabulary → List GroundTerm
-told v = v.named ++ v.others
-
--- the ground term that a term of the formula is where the variables above are these terms
-abbrev pub term_at : List GroundTerm → Term → Option GroundTerm
-term_at env (bound sort depth) = slice_get env depth
-term_at env (num n) = None
-term_at env (str t) = None
-term_at env (app h t) = option_map (field h) (term_at env t)
+use Rattle.sc_terms.specs.Reading.{Reads}
+use Rattle.sc_tables.specs.Table.{Table, holds}
+pub use Rattle.sc_tables.specs.Spoken.{Pair, Vocabulary, told, term_at}
 
 module _ (g : Signature) (v : Vocabulary) where
   -- a function of the signature at a term that names an element of its source
@@ -95,6 +73,23 @@ module _ (g : Signature) (v : Vocabulary) where
   Covers terms number env args (forall sort a) =
       (t : GroundTerm) → Contains terms t → sort_of g t ≡ Some sort → Covers terms (number + 1) (env ++ t ∷ []) (and_last args t) a
 
+-- terms of these sorts, from the list
+abbrev pub AreTerms : Signature → List GroundTerm → List ℕ → List GroundTerm → Type 0
+AreTerms g terms [] [] = Unit {0}
+AreTerms g terms [] (t ∷ ts) = ⊥
+AreTerms g terms (sort ∷ sorts) [] = ⊥
+AreTerms g terms (sort ∷ sorts) (t ∷ ts) = (Contains terms t × (sort_of g t ≡ Some sort)) × AreTerms g terms sorts ts
+
+-- the vocabulary decides how a formula is read: where the same of its terms are there, and in two tables the same of the atoms hold that
+-- speak of nothing else, the formula is read by one if it is by the other
+abbrev pub IsDecidedBy : Signature → Formula → List GroundTerm → Vocabulary → Type 0
+IsDecidedBy g f terms v =
+    (is_there is_there' : GroundTerm → Bool) (one two : Table)
+    → ((t : GroundTerm) → Contains v.named t → is_there t ≡ is_there' t)
+    → ((a : Formula) (scope : List ℕ) (env : List GroundTerm) → IsOver g scope a → AreTerms g v.named scope env → CoversAtom g v env a
+        → holds one env a ≡ holds two env a)
+    → Reads g is_there (holds one) terms 0 [] no_terms f → Reads g is_there' (holds two) terms 0 [] no_terms f
+
 -- a term that names an element is the constant of a needed sort, or the variable of an `exists` or a function at such terms
 abbrev pub IsFormed : Signature → Formula → Vocabulary → GroundTerm → Type 0
 IsFormed g f v (constant sort) = IsTrue (is_needed g f sort)
@@ -108,10 +103,10 @@ IsOther g v (constant sort) = ⊥
 IsOther g v (skolem number sort ts) = ⊥
 IsOther g v (field h t) = IsFunctionAt g v h t
 
--- the vocabulary has the terms over which a formula is read, all that it speaks of there, and what its own terms are made of
+-- the vocabulary has the terms over which a formula is read and what its own terms are made of, and decides how the formula is read
 pub record IsVocabulary (g : Signature) (f : Formula) (terms : List GroundTerm) (v : Vocabulary) : Type 0 where
   pub ranged : (t : GroundTerm) → Contains terms t → Contains v.named t
-  pub covers : Covers g v terms 0 [] no_terms f
+  pub decides : IsDecidedBy g f terms v
   pub sorted : (t : GroundTerm) → Contains v.named t → (sort : ℕ) × (sort_of g t ≡ Some sort)
   pub formed : (t : GroundTerm) → Contains v.named t → IsFormed g f v t
   pub functions : (t : GroundTerm) → Contains v.others t → IsOther g v t

@@ -2,4 +2,4 @@ use Rattle.sc_grounding.proofs.Listing.{ground_clauses}
 use Rattle.sc_grounding.proofs.laws.ground_clauses_exist.Goals as goal
 
 pub returns : goal.returns
-returns c = λ g v nodes made. ground_clauses g v nodes made
+returns c = λ cs nodes made. ground_clauses cs nodes made

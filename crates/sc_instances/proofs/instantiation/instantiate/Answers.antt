@@ -1,4 +1,4 @@
-use Rattle.std.proofs.Common.{◌<◌, List, ℕ, length, ap, subst, sym, arith}
+use Rattle.std.proofs.Common.{◌<◌, List, ℕ, length, ap, subst, sym, ◌∙◌, arith}
 use Rattle.sc_formula.specs.Nodes.{formula_of}
 use Rattle.sc_term_arena.specs.declared.node.TermNode.{TermNode}
 use Rattle.sc_ground.specs.Standing.{AreTermsAt}
@@ -32,4 +32,4 @@ steps-preserved c =
 pub returns-in-Some : goal.returns-in-Some
 returns-in-Some c =
     work_done c.args.signature.now c.args.arena.now c.as_slice.result.now c.as_slice-2.result.now (terms_in c.args.terms) (formula_of c.args.arena.now c.args.id) c.in_ok-root.root c.steps.work c.in-Some.gate _ c.steps.invariant
-    c.in-Some.ensures c.finished.ensures.terms c.finished.ensures.inputs c.finished.ensures.gates c.finished.ensures.root
+    c.in-Some.ensures c.finished.ensures.terms c.finished.ensures.inputs c.finished.ensures.gates c.finished.ensures.root (c.finished.ensures.listed ∙ sym c.as_slice-2.ensures.value)

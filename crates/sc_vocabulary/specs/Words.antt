@@ -4,8 +4,8 @@ use Rattle.sc_term_arena.specs.declared.node.TermNode.{TermNode}
 use Rattle.sc_term_arena.specs.Nodes.{IsOne, term_of}
 use Rattle.sc_ground.specs.Standing.{AreOnes, terms_at}
 use Rattle.sc_tables.specs.Vocabulary.{Pair, Vocabulary}
-use Rattle.sc_models.specs.declared.pairs.PairNode.{PairNode}
-use Rattle.sc_models.specs.declared.words.Words.{Words}
+use Rattle.sc_vocabulary.specs.declared.words.PairNode.{PairNode}
+use Rattle.sc_vocabulary.specs.declared.words.Words.{Words}
 
 module _ (nodes : List TermNode) where
   -- a set relation at the terms of two numbers

@@ -1,0 +1,1 @@
+use Rattle.sc_vocabulary.proofs.spoken.spoken_words.Goals as goal
