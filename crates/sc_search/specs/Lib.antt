@@ -1,2 +1,4 @@
+pub mod Encoding
+pub mod Halving
 pub mod Public
 pub mod Tabled
