@@ -1,6 +1,8 @@
 pub mod Adding
 pub mod Alike
+pub mod AllLaws
 pub mod CongruenceLaws
+pub mod DemandLaws
 pub mod NumberLaws
-pub mod TieLaws
 pub mod TermLaws
+pub mod TieLaws

@@ -1,17 +1,14 @@
 -- The clauses of a table on one term.
-use Rattle.std.proofs.Common.{◌≡◌, ℕ, ◌∙◌, sym, refl, ap, subst, true, false, List, [], ◌∷◌, ◌++◌, map, Some, None, Option, append_assoc, append-nil}
-use Rattle.std.specs.Prelude.{slice_get, cond}
+use Rattle.std.proofs.Common.{◌≡◌, ℕ, ◌∙◌, sym, refl, ap, true, false, List, [], ◌∷◌, ◌++◌, map, Some, append_assoc, append-nil}
+use Rattle.std.specs.Prelude.{slice_get}
 use Rattle.std.specs.Option.{option_map}
 use Rattle.sc_formula.specs.declared.node.Node.{Node}
-use Rattle.sc_formula.specs.declared.structure.FunSig.{FunSig}
-use Rattle.sc_formula.specs.declared.structure.Signature.{Signature}
-use Rattle.sc_terms.specs.GroundTerms.{GroundTerm, GroundTerms, constant, skolem, field, list_of, sort_of}
+use Rattle.sc_terms.specs.GroundTerms.{GroundTerm, list_of, no_terms}
 use Rattle.sc_term_arena.specs.declared.node.TermNode.{TermNode}
 use Rattle.sc_term_arena.specs.declared.node.TermNode.TheVariants.{Constant, Skolem, Field, Empty, Cons}
 use Rattle.sc_term_arena.specs.Nodes.{IsList, IsPlaced, is_one, list_of as list_at, list_part, term_of, tree_of, tree_from, trees_of}
 use Rattle.sc_ground.proofs.Standing.{map-append}
-use Rattle.sc_tables.specs.Clauses.{sort_clauses_of, term_clauses, total_clauses}
-use Rattle.sc_tables.specs.Facts.{Clause, implied, so, not_so, there, empty}
+use Rattle.sc_tables.specs.Facts.{Clause, implied, so, there}
 use Rattle.sc_clauses.specs.declared.facts.FactLiteral.{FactLiteral}
 use Rattle.sc_clauses.specs.Facts.{AreAdded}
 use Rattle.sc_clauses.proofs.Adding.{added_as, added_both, added_none}
@@ -50,27 +47,15 @@ module _ (nodes : List Node) (terms : List TermNode) (t : GroundTerm) (list : �
       (ap (map (follows t)) (sym (append-nil h.done) ∙ (ap (λ us. h.done ++ us) (sym none) ∙ h.rest))) h.added
 
 -- a list that is no longer is at its end
-pub list_end : (terms : List TermNode) (at : ℕ) (n : TermNode) → IsList terms at → slice_get terms at ≡ Some n → tree_of terms at ≡ tree_from (trees_of terms) n → ((t ts : ℕ) → n ≡ Cons t ts → ⊥) → list_of (list_at terms at) ≡ []
-list_end terms at n fits there e other = by n there e other
+pub list_end : (terms : List TermNode) (at : ℕ) (n : TermNode) → IsList terms at → slice_get terms at ≡ Some n → tree_of terms at ≡ tree_from (trees_of terms) n → ((t ts : ℕ) → n ≡ Cons t ts → ⊥) → list_at terms at ≡ no_terms
+list_end terms at n fits e means other = by n e means other
   where
     no_term : (n : TermNode) → slice_get terms at ≡ Some n → is_one n ≡ true → ⊥
-    no_term n there one = let kind : option_map is_one (Some n) ≡ Some false = ap (λ o. option_map is_one o) (sym there) ∙ fits in cc
+    no_term n e one = let kind : option_map is_one (Some n) ≡ Some false = ap (λ o. option_map is_one o) (sym e) ∙ fits in cc
 
-    by : (n : TermNode) → slice_get terms at ≡ Some n → tree_of terms at ≡ tree_from (trees_of terms) n → ((t ts : ℕ) → n ≡ Cons t ts → ⊥) → list_of (list_at terms at) ≡ []
-    by (Constant sort) there e other = absurd (no_term (Constant sort) there refl)
-    by (Skolem number sort ts) there e other = absurd (no_term (Skolem number sort ts) there refl)
-    by (Field h t) there e other = absurd (no_term (Field h t) there refl)
-    by Empty there e other = ap (λ tree. list_of (list_part tree)) e
-    by (Cons t ts) there e other = absurd (other t ts refl)
-
--- the clauses of a term by its node
-module _ (g : Signature) (nodes : List Node) (terms : List TermNode) (id : ℕ) where
-  pub constant_clauses : (sort : ℕ) → term_of terms id ≡ constant sort → (so (there (term_of terms id)) ∷ so (empty sort) ∷ []) ∷ [] ≡ term_clauses g (term_of terms id)
-  constant_clauses sort e =
-      let P : GroundTerm → Type 0 = λ t. (so (there t) ∷ so (empty sort) ∷ []) ∷ [] ≡ term_clauses g t in subst P (sym e) refl
-
-  pub skolem_clauses : (number sort : ℕ) (ts : GroundTerms) → term_of terms id ≡ skolem number sort ts → map (follows (term_of terms id)) (list_of ts) ≡ term_clauses g (term_of terms id)
-  skolem_clauses number sort ts e = let P : GroundTerm → Type 0 = λ t. map (follows t) (list_of ts) ≡ term_clauses g t in subst P (sym e) refl
-
-  pub field_clauses : (h : ℕ) (t : GroundTerm) → term_of terms id ≡ field h t → follows (term_of terms id) t ∷ total_clauses g (slice_get g.funs h) h t ≡ term_clauses g (term_of terms id)
-  field_clauses h t e = let P : GroundTerm → Type 0 = λ u. follows u t ∷ total_clauses g (slice_get g.funs h) h t ≡ term_clauses g u in subst P (sym e) refl
+    by : (n : TermNode) → slice_get terms at ≡ Some n → tree_of terms at ≡ tree_from (trees_of terms) n → ((t ts : ℕ) → n ≡ Cons t ts → ⊥) → list_at terms at ≡ no_terms
+    by (Constant sort) e means other = absurd (no_term (Constant sort) e refl)
+    by (Skolem number sort ts) e means other = absurd (no_term (Skolem number sort ts) e refl)
+    by (Field h t) e means other = absurd (no_term (Field h t) e refl)
+    by Empty e means other = ap list_part means
+    by (Cons t ts) e means other = absurd (other t ts refl)

@@ -1,5 +1,5 @@
 -- The clauses that tie inputs to their facts, and all clauses together.
-use Rattle.std.proofs.Common.{◌≡◌, ℕ, zero, suc, arith, ◌+◌, ◌<◌, ◌≤◌, ◌⊎◌, inl, inr, ◌∙◌, sym, refl, ap, subst, List, [], ◌∷◌, ◌++◌, Some, None, Option, length, map, append_assoc, append-nil, Contains}
+use Rattle.std.proofs.Common.{◌≡◌, ℕ, zero, suc, arith, ◌+◌, ◌<◌, ◌≤◌, ◌⊎◌, inl, inr, ◌∙◌, sym, refl, ap, subst, List, [], ◌∷◌, ◌++◌, Some, None, Option, length, map, append_assoc, append-nil, Contains, Vec, Global}
 use Rattle.std.specs.Prelude.{slice_get}
 use Rattle.std.proofs.lemmas.Option.{slice_get_within}
 use Rattle.std.proofs.lemmas.List.Elements.{Contains-append_cases, Contains-append_left, Contains-append_right}
@@ -19,7 +19,14 @@ use Rattle.sc_clauses.specs.declared.numbering.Numbering.{Numbering}
 use Rattle.sc_clauses.specs.Facts.{clause_at, clauses_at, fact_at}
 use Rattle.sc_clauses.specs.Ground.{AddsTies, AreTied, IsTied}
 use Rattle.sc_clauses.specs.Numbers.{AreLiterals, AreNumbers, IsNumber, KeepsFacts, Zips}
-use Rattle.sc_clauses.proofs.NumberLaws.{number_kept, zips_as}
+use Rattle.sc_clauses.specs.declared.ground.GroundClauses.{GroundClauses}
+use Rattle.sc_clauses.proofs.NumberLaws.{literals_kept, number_kept, zips_as}
+
+below_or : (k n : ℕ) → k < n + 1 → (k < n) ⊎ (k ≡ n)
+below_or zero zero lt = inr refl
+below_or zero (suc n) lt = inl (omega arith)
+below_or (suc k) zero lt = absurd (omega (arith, lt))
+below_or (suc k) (suc n) lt = elim (below_or k n (omega (arith, lt))) [ inl less ↦ inl (omega (arith, less)) | inr same ↦ inr (ap suc same) ]
 
 module _ (nodes : List Node) (terms : List TermNode) where
   pub tied_kept : (old new : Numbering) → KeepsFacts old new → (k : ℕ) (i : Input) (ties : List (List Literal)) → IsTied nodes terms old.inputs old.facts.keys k i ties → IsTied nodes terms new.inputs new.facts.keys k i ties
@@ -64,14 +71,10 @@ module _ (nodes : List Node) (terms : List TermNode) where
                 let Q : ℕ → Type 0 = λ k. slice_get all k ≡ Some j in
                 let e' : Some i ≡ Some j = sym at ∙ subst Q same e in
                 let one' : i ≡ j = cc in
-                let P : ℕ → Input → Type 0 = λ k j. IsTied nodes terms new.inputs new.facts.keys k j one.ties in
                 let P' : ℕ → Type 0 = λ k. IsTied nodes terms new.inputs new.facts.keys k j one.ties in
                 let P'' : Input → Type 0 = λ j. IsTied nodes terms new.inputs new.facts.keys n j one.ties in
                 (one.ties, subst P' (sym same) (subst P'' one' one.is), λ x here. Contains-append_right h.more one.ties x here)
           ]
-
-      below_or : (k n : ℕ) → k < n + 1 → (k < n) ⊎ (k ≡ n)
-      below_or k n lt = grind (arith, lt)
 
 -- what was numbered is so among the facts
 module _ (made : Instances) (nodes : List Node) (terms : List TermNode) (keys : List FactNode) where
@@ -179,3 +182,37 @@ module _ (made : Instances) (nodes : List Node) (keys : List FactNode) where
                   ]
             ];
       }
+
+zips_mapped : {A B D E : Type 0} (R : D → E → Type 0) (f : A → D) (h : B → E) (xs : List A) (ys : List B) → Zips (λ x y. R (f x) (h y)) xs ys → Zips R (map f xs) (map h ys)
+zips_mapped R f h [] [] z = tt
+zips_mapped R f h [] (y ∷ ys) z = absurd z
+zips_mapped R f h (x ∷ xs) [] z = absurd z
+zips_mapped R f h (x ∷ xs) (y ∷ ys) z = (z.0, zips_mapped R f h xs ys z.1)
+
+length-map : {A B : Type 0} (f : A → B) (xs : List A) → length (map f xs) ≡ length xs
+length-map f [] = refl
+length-map f (x ∷ xs) = ap suc (length-map f xs)
+
+-- the same of what the code has
+pub all_ground : (made : Instances) (nodes : List Node) (start mid : Numbering) (facts : List (Vec FactLiteral Global)) (tables : List (Vec Literal Global)) (tied : List (List Literal)) (all : List Input) (g : GroundClauses)
+    → mid.inputs ≡ length made.inputs → all ≡ made.inputs → Zips (λ c p. AreLiterals start.inputs start.facts.keys c.items p.items) tables facts → KeepsFacts start mid
+    → AreTied nodes made.terms mid.inputs mid.facts.keys all (length all) (map (λ c. c.items) tables) tied → g.facts.items ≡ mid.facts.keys → g.first_gate ≡ mid.inputs + length mid.facts.keys
+    → map (λ c. c.items) g.clauses.items ≡ tied ++ (is_true (g.first_gate + made.root) ∷ []) ∷ [] → AreClausesOf g.first_gate made.gates (map (λ c. c.items) g.gates.items)
+    → AreGroundClauses made (map (fact_at nodes made.terms) g.facts.items) nodes (clauses_at nodes made.terms (map (λ c. c.items) facts)) (map (λ c. c.items) g.clauses.items ++ map (λ c. c.items) g.gates.items)
+all_ground made nodes start mid facts tables tied all g count inputs numbered kept ties same_facts first clauses gates =
+    let keys = mid.facts.keys in
+    let ps : List (List FactLiteral) = map (λ c. c.items) facts in
+    let later : Zips (λ c p. AreLiterals mid.inputs keys c.items p.items) tables facts =
+    zips_as (λ c p. AreLiterals start.inputs start.facts.keys c.items p.items) (λ c p. AreLiterals mid.inputs keys c.items p.items) (λ c p h. literals_kept start mid kept c.items p.items h) tables facts numbered in
+    let listed : Zips (AreLiterals mid.inputs keys) (map (λ c. c.items) tables) ps = zips_mapped (AreLiterals mid.inputs keys) (λ c. c.items) (λ c. c.items) tables facts later in
+    let N : ℕ → Type 0 = λ n. Zips (AreLiterals n keys) (map (λ c. c.items) tables) ps in
+    let A : List Input → Type 0 = λ all. AreTied nodes made.terms mid.inputs keys all (length all) (map (λ c. c.items) tables) tied in
+    let T : ℕ → Type 0 = λ n. AreTied nodes made.terms n keys made.inputs (length made.inputs) (map (λ c. c.items) tables) tied in
+    let number : g.first_gate ≡ first_gate made (map (fact_at nodes made.terms) keys) =
+    first ∙ (ap (λ n. n + length keys) count ∙ ap (λ n. length made.inputs + n) (sym (length-map (fact_at nodes made.terms) keys))) in
+    let G : ℕ → Type 0 = λ n. AreClausesOf n made.gates (map (λ c. c.items) g.gates.items) in
+    let root : map (λ c. c.items) g.clauses.items ≡ tied ++ root_clause made (map (fact_at nodes made.terms) keys) nodes (clauses_at nodes made.terms ps) ∷ [] =
+    clauses ∙ ap (λ n. tied ++ (is_true (n + made.root) ∷ []) ∷ []) number in
+    let F : List FactNode → Type 0 = λ ks. AreGroundClauses made (map (fact_at nodes made.terms) ks) nodes (clauses_at nodes made.terms ps) (map (λ c. c.items) g.clauses.items ++ map (λ c. c.items) g.gates.items) in
+    subst F (sym same_facts)
+    (ground made nodes keys (map (λ c. c.items) tables) tied (map (λ c. c.items) g.clauses.items) (map (λ c. c.items) g.gates.items) ps (subst N count listed) (subst T count (subst A inputs ties)) root (subst G number gates))

@@ -195,7 +195,8 @@ fn push_two_variables(
     let mut literals = vec![in alloc; not_so(FactNode::There(x))]?;
     push_all_apart(source, ts, us, &mut literals)?;
     push_with(alloc, literals.as_slice(), FactNode::There(y), clauses)?;
-    push_with(alloc, literals.as_slice(), same(x, y), clauses)
+    push_with(alloc, literals.as_slice(), same(x, y), clauses)?;
+    Ok(())
 }
 
 /// Puts the clauses that a variable is there at terms and names one element, where it is there at

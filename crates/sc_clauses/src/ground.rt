@@ -175,5 +175,6 @@ pub fn ground_clauses(
     let inputs = made.inputs.as_slice();
     let fields = spoken.fields.as_slice();
     tie_inputs(alloc, source, inputs, fields, &mut numbering, &mut clauses)?;
-    with_gates(alloc, made, numbering, clauses)
+    let ground = with_gates(alloc, made, numbering, clauses)?;
+    Ok(ground)
 }

@@ -5,6 +5,7 @@
 //! - `base`: all clauses of a table but those of congruence.
 //! - `congruence`: the clauses of congruence on two terms.
 //! - `congruences`: all clauses of congruence.
+//! - `demand`: the clauses that what a search found breaks.
 //! - `input_facts`: the facts that inputs stand for.
 //! - `numbering`: facts as variables.
 //! - `ties`: the clauses that tie inputs to their facts.
@@ -14,6 +15,7 @@
 mod base;
 mod congruence;
 mod congruences;
+mod demand;
 mod facts;
 mod ground;
 mod input_facts;
@@ -23,5 +25,6 @@ mod ties;
 
 pub use base::base_clauses;
 pub use congruences::congruence_clauses;
+pub use demand::{Truth, broken};
 pub use facts::{FactLiteral, FactNode};
 pub use ground::{GroundClauses, ground_clauses};

@@ -24,6 +24,22 @@ pub(crate) struct Source<'a> {
     pub(crate) terms: &'a TermArena,
 }
 
+/// Puts the clause that a term is there only where another is at the end.
+fn push_argument(
+    alloc: Global,
+    source: Source<'_>,
+    id: u32,
+    t: u32,
+    clauses: &mut Vec<Vec<FactLiteral>>,
+) -> Result<(), AllocError>
+    ensures { OnOk result (AreAdded source.entry.arena.now source.entry.terms.now
+        (map (λ c. c.items) clauses.old.items) (map (λ c. c.items) clauses.new.items)
+        (implied (there (term_of source.entry.terms.now id) ∷ [])
+        (so (there (term_of source.entry.terms.now t))) ∷ [])) }
+{
+    push_implied(alloc, FactNode::There(id), so(FactNode::There(t)), clauses)
+}
+
 /// Puts the clauses that a variable is there only where the terms of a list are at the end.
 fn push_arguments(
     alloc: Global,
@@ -42,7 +58,7 @@ fn push_arguments(
     'down: loop {
         match source.terms.node(at) {
             TermNode::Cons(t, ts) => {
-                push_implied(alloc, FactNode::There(id), so(FactNode::There(t)), clauses)?;
+                push_argument(alloc, source, id, t, clauses)?;
                 at = ts;
             }
             _ => return Ok(()),

@@ -119,6 +119,20 @@ module _ (g : Signature) (v : Vocabulary) (nodes : List Node) (terms : List Term
   pair_related (Flag h a) p t c = Contains-none p c
   pair_related (Present h a) p t c = Contains-none p c
 
+-- what stands whichever formula the instances are of
+module _ (g : Signature) (nodes : List Node) (variables : List Variable) (closed : Bool) (old : Instances) (s : Spoken) (found : AreSpokenBy g nodes variables closed old s.made s.words s.fields.items) where
+  related_at : (p : PairNode) → Contains s.words.pairs.items p → IsRelated g (vocabulary_at s.made.terms s.words) nodes s.made.terms p
+  related_at p c =
+      let Q : List PairNode → Type 0 = λ ps. Contains ps p in
+      let (i, listed, own') = Contains-flat_map pairs_in old.inputs p (subst Q found.words.pairs c) in
+      pair_related g (vocabulary_at s.made.terms s.words) nodes s.made.terms i p (found.words.told i listed) own'
+
+  pub words_stand : IsWords s.made.terms s.words
+  words_stand = record { named = found.words.ones; others = found.words.other_ones; pairs = are_pairs s.made.terms s.words.pairs.items (λ p c. (related_at p c).0) }
+
+  pub fields_stand : AreFieldsOf s.made.terms s.made.inputs s.fields.items
+  fields_stand = let P : List Input → Type 0 = λ is. AreFieldsOf s.made.terms is s.fields.items in subst P (sym found.inputs) found.added.stand
+
 module _ (g : Signature) (nodes : List Node) (f : Formula) (ts : List GroundTerm) (variables : List Variable) (closed : Bool) (old : Instances) (s : Spoken)
     (found : AreSpokenBy g nodes variables closed old s.made s.words s.fields.items) (over : IsOver g [] f) (terms_formed : AreFormed g f ts)
     (own : map variable_at variables ≡ variables_of g f) (before : AreInstancesOf g nodes f ts old) where
@@ -168,16 +182,10 @@ module _ (g : Signature) (nodes : List Node) (f : Formula) (ts : List GroundTerm
       let Q : List PairNode → Type 0 = λ ps. Contains ps p in
       to_map (pair_at terms) s.words.pairs.items p (subst Q (sym found.words.pairs) (flat_map-Contains pairs_in old.inputs i p (subst P found.inputs c) d))
 
-  from_pairs : (p : PairNode) → Contains s.words.pairs.items p → IsRelated g v nodes terms p
-  from_pairs p c =
-      let Q : List PairNode → Type 0 = λ ps. Contains ps p in
-      let (i, listed, own') = Contains-flat_map pairs_in old.inputs p (subst Q found.words.pairs c) in
-      pair_related g v nodes terms i p (told_old i listed) own'
-
   pub spoken : IsSpoken g nodes f ts closed s
   spoken = record {
     instances = instances;
-    words = record { named = found.words.ones; others = found.words.other_ones; pairs = are_pairs terms s.words.pairs.items (λ p c. (from_pairs p c).0) };
+    words = words_stand g nodes variables closed old s found;
     vocabulary = record {
       ranged = ranged;
       decides = decided g nodes f ts s.made v over instances sorted functions told_new to_pairs;
@@ -187,11 +195,11 @@ module _ (g : Signature) (nodes : List Node) (f : Formula) (ts : List GroundTerm
       related = λ p c.
           let (q, listed, e) = in_map (pair_at terms) s.words.pairs.items p c in
           let P : Pair → Type 0 = λ p. (sig : SetSig) × (slice_get g.sets p.relation ≡ Some sig) × (sort_of g p.holder ≡ Some sig.from) × Contains v.named p.holder × (sort_of g p.member ≡ Some sig.to) × Contains v.named p.member in
-          subst P e (from_pairs q listed).1;
+          subst P e (related_at g nodes variables closed old s found q listed).1;
     };
     within = λ e t c. from_listed t ((found.words.fine t c).within e);
     told = told_new;
-    fields = let P : List Input → Type 0 = λ is. AreFieldsOf terms is s.fields.items in subst P (sym found.inputs) found.added.stand;
+    fields = fields_stand g nodes variables closed old s found;
   }
 
 module _ (g : Signature) (arena : List Node) (variables : List Variable) (closed : Bool) (nodes : List TermNode) (listed : List ℕ) (inputs : List Input) where

@@ -11,6 +11,7 @@ ghost use Rattle.sc_tables.specs.Vocabulary.{AreFormed};
 ghost use Rattle.sc_instances.specs.Made.{AreInstancesOf};
 ghost use Rattle.sc_vocabulary.specs.Inputs.{AreFieldsOf};
 ghost use Rattle.sc_vocabulary.specs.Spoken.{IsSpoken};
+ghost use Rattle.sc_vocabulary.specs.Words.{IsWords};
 ghost use Rattle.sc_vocabulary.specs.Telling.{AreListedMarks};
 ghost use Rattle.sc_vocabulary.specs.WordsFound.{AreSpokenBy, AreWordsFor, IsTellingFor};
 
@@ -187,7 +188,10 @@ pub fn vocabulary_of(
     made: Instances,
     closed: bool,
 ) -> Result<Spoken, AllocError>
-    ensures { IfOk result (λ spoken. (f : Formula) (ts : List GroundTerm) →
+    ensures words { IfOk result (λ spoken. IsWords spoken.made.terms spoken.words) }
+    ensures fields { IfOk result (λ spoken. AreFieldsOf spoken.made.terms spoken.made.inputs
+        spoken.fields.items) }
+    ensures spoken { IfOk result (λ spoken. (f : Formula) (ts : List GroundTerm) →
         IsOver signature.now [] f → AreFormed signature.now f ts →
         map variable_at variables.now ≡ variables_of signature.now f →
         AreInstancesOf signature.now arena.now f ts made →

@@ -1,8 +1,8 @@
-use Rattle.std.proofs.Common.{map, refl, false}
+use Rattle.std.proofs.Common.{ap, false}
+use Rattle.sc_terms.specs.GroundTerms.{list_of}
 use Rattle.sc_term_arena.specs.Nodes.{term_of}
 use Rattle.sc_term_arena.proofs.Placement.{kind_within}
-use Rattle.sc_clauses.proofs.Adding.{added_one}
-use Rattle.sc_clauses.proofs.TermLaws.{down_begun, down_on, down_done, follows, list_end}
+use Rattle.sc_clauses.proofs.TermLaws.{down_begun, down_on, down_done, list_end}
 use Rattle.sc_clauses.proofs.terms.push_arguments.Goals as goal
 
 pub down-init : goal.down-init
@@ -13,14 +13,11 @@ node-requires c = kind_within c.args.source.terms.now c.down.at false c.down.inv
 
 pub down-preserved : goal.down-preserved
 down-preserved c =
-    let nodes = c.args.source.arena.now in
     let terms = c.args.source.terms.now in
-    let t = term_of terms c.args.id in
-    down_on nodes terms t c.args.list c.down.at c.in-Cons.t c.in-Cons.ts _ _ _ c.in-Cons.ensures.placed c.in-Cons.ensures.means
-    (added_one nodes terms _ _ _ (follows t (term_of terms c.in-Cons.t)) c.in_ok-push_implied-in-Cons.ensures refl) c.down.invariant
+    down_on c.args.source.arena.now terms (term_of terms c.args.id) c.args.list c.down.at c.in-Cons.t c.in-Cons.ts _ _ _ c.in-Cons.ensures.placed c.in-Cons.ensures.means c.in_ok-push_argument-in-Cons.ensures c.down.invariant
 
 pub returns-in_default : goal.returns-in_default
 returns-in_default c =
     let terms = c.args.source.terms.now in
     down_done c.args.source.arena.now terms (term_of terms c.args.id) c.args.list c.down.at _ _
-    (list_end terms c.down.at c.node.result c.down.invariant.fits c.node.ensures.node c.node.ensures.means c.in_default.not-Cons) c.down.invariant
+    (ap list_of (list_end terms c.down.at c.node.result c.down.invariant.fits c.node.ensures.node c.node.ensures.means c.in_default.not-Cons)) c.down.invariant
