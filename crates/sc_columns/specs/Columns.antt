@@ -62,7 +62,7 @@ sval_of (read.Str t) = Str t.now
 
 -- whether two pairs are one
 abbrev pub is_same_pair : PairNode → PairNode → Bool
-is_same_pair p q = (q.relation == p.relation) && ((q.holder == p.holder) && (q.member == p.member))
+is_same_pair p q = (q.relation == p.relation) && ((p.holder == q.holder) && (p.member == q.member))
 
 abbrev pub value_by : Columns → ℕ → SVal
 value_by c id = unwrap_or (slice_get c.values id) (Flag false)
@@ -131,3 +131,23 @@ entry_by c id = cond (unwrap_or (slice_get c.there id) false) (Some (unwrap_or (
 pub record IsSo (nodes : List Node) (terms : List TermNode) (pairs : List PairNode) (c : Columns) (p : FactNode) (value : Bool) : Type 0 where
   pub proper : IsFactOf nodes terms p
   pub is : value ≡ fact_by nodes pairs c p
+
+-- the related pairs, each by its first place
+abbrev pub related_by : List PairNode → Columns → List Bool
+related_by pairs c = map (λ p. at_or c.related (position (is_same_pair p) pairs) false) pairs
+
+-- what was found, by numbers
+pub record AreFound (terms : List TermNode) (pairs : List PairNode) (c : Columns) (found : Found) : Type 0 where
+  pub values : found.values ≡ map (entry_by c) (range_with_len 0 (length terms))
+  pub related : found.related ≡ related_by pairs c
+  pub empty : found.empty ≡ c.empty
+
+-- what the term of a number has is of its range
+pub record IsTypedAt (g : Signature) (terms : List TermNode) (c : Columns) (id : ℕ) : Type 0 where
+  pub one : IsOne terms id
+  pub typed : (range : Range) → range_of g (term_of terms id) ≡ Some range → IsOfRange range (value_by c id)
+
+-- and so of these numbers
+abbrev pub AreTyped : Signature → List TermNode → Columns → List ℕ → Type 0
+AreTyped g terms c ids =
+    (k id : ℕ) → slice_get ids k ≡ Some id → IsTypedAt g terms c id

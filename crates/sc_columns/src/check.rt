@@ -2,7 +2,6 @@
 
 ghost use Rattle.std.specs.Prelude.{◌≡◌, ◌+◌, ℕ, Some, false, position, IfOk, OnOk};
 ghost use Rattle.std.specs.Prelude.{slice_get, unwrap_or};
-ghost use Rattle.std.specs.Option.{option_copied};
 ghost use Rattle.sc_clauses.specs.declared.facts.FactNode.{FactNode as AnyFact};
 ghost use Rattle.sc_columns.specs.Columns.{IsFactOf, IsSo, at_or, fact_by, is_same_pair};
 
@@ -25,7 +24,7 @@ pub struct Source<'a> {
 }
 
 /// The truth value at a place.
-fn flag_at(flags: &Items<bool>, place: usize) -> bool
+pub(crate) fn flag_at(flags: &Items<bool>, place: usize) -> bool
     ensures { result ≡ unwrap_or (slice_get flags.now place) false }
 {
     match flags.get(place) {
@@ -39,12 +38,12 @@ fn place_of(pairs: &[PairNode], pair: PairNode) -> Option<usize>
     ensures { result ≡ position (is_same_pair pair) pairs.now }
 {
     pairs.iter().position(|p| {
-        p.relation == pair.relation && (p.holder == pair.holder && p.member == pair.member)
+        p.relation == pair.relation && (pair.holder == p.holder && pair.member == p.member)
     })
 }
 
 /// Whether the set relation of a pair holds.
-fn is_related(related: &Items<bool>, pairs: &[PairNode], pair: PairNode) -> bool
+pub(crate) fn is_related(related: &Items<bool>, pairs: &[PairNode], pair: PairNode) -> bool
     ensures { result ≡ at_or related.now (position (is_same_pair pair) pairs.now) false }
 {
     match place_of(pairs, pair) {
@@ -87,18 +86,45 @@ fn holds(source: Source<'_>, fact: FactNode) -> Result<bool, AllocError>
     }
 }
 
-/// Whether a fact is so exactly where its value is true.
-fn agrees(source: Source<'_>, fact: FactNode, value: Option<&bool>) -> Result<(), AllocError>
+/// Checks that a fact is so exactly where its value is true.
+fn check_fact(source: Source<'_>, fact: FactNode, value: bool) -> Result<(), AllocError>
     ensures { OnOk result (IsSo source.entry.arena.now source.entry.terms.now
-        source.entry.pairs.now source.entry.columns.now fact (unwrap_or (option_copied value.entry)
-        false)) }
+        source.entry.pairs.now source.entry.columns.now fact value) }
 {
-    let wanted = match value {
-        Some(flag) => *flag,
-        None => false,
-    };
     let so = holds(source, fact)?;
-    if so == wanted { Ok(()) } else { Err(AllocError) }
+    if so == value { Ok(()) } else { Err(AllocError) }
+}
+
+/// The value of the fact at a place, where those of facts begin behind the first ones.
+fn value_of(values: &[bool], first: u32, k: usize) -> Result<bool, AllocError>
+    ensures { IfOk result (λ value. value ≡ unwrap_or (slice_get values.now (first + k)) false) }
+{
+    let Some(place) = (first as usize).checked_add(k) else {
+        return Err(AllocError);
+    };
+    match values.get(place) {
+        Some(value) => Ok(*value),
+        None => Err(AllocError),
+    }
+}
+
+/// Checks the fact at a place.
+fn check_at(
+    source: Source<'_>,
+    facts: &[FactNode],
+    k: usize,
+    first: u32,
+    values: &[bool],
+) -> Result<(), AllocError>
+    ensures { OnOk result ((p : AnyFact) → slice_get facts.now k ≡ Some p → IsSo
+        source.entry.arena.now source.entry.terms.now source.entry.pairs.now
+        source.entry.columns.now p (unwrap_or (slice_get values.now (first + k)) false)) }
+{
+    let value = value_of(values, first, k)?;
+    match facts.get(k) {
+        Some(fact) => check_fact(source, *fact, value),
+        None => Err(AllocError),
+    }
 }
 
 /// Checks that facts are so exactly where their values are true, which begin behind the first ones.
@@ -114,11 +140,7 @@ pub fn check_facts(
         source.entry.columns.now p (unwrap_or (slice_get values.now (first + k)) false)) }
 {
     for k in 0..facts.len() {
-        let place = (first as usize).checked_add(k);
-        let Some(place) = place else {
-            return Err(AllocError);
-        };
-        agrees(source, facts[k], values.get(place))?;
+        check_at(source, facts, k, first, values)?;
     }
     Ok(())
 }

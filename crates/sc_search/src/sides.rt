@@ -8,9 +8,10 @@ ghost use Rattle.sc_tables.specs.Consistent.{range_of};
 ghost use Rattle.sc_search.specs.Encoding.{IsSide};
 
 use sc_ast::Txt;
+use sc_columns::range_at;
 use sc_formula::{Arena, Node, Range, Signature};
 use sc_instances::Value;
-use sc_term_arena::{TermArena, TermNode};
+use sc_term_arena::TermArena;
 use sc_vocabulary::Words;
 use std::alloc::AllocError;
 
@@ -36,24 +37,6 @@ pub(crate) struct Reader<'a> {
     pub(crate) texts: &'a [Txt],
 }
 
-/// What a term may have, if the number is that of a term.
-fn range_at(signature: &Signature, terms: &TermArena, id: u32) -> Option<Range>
-    ensures one { IfSome result (λ _. IsOne terms.now id) }
-    ensures range { IfSome result (λ range. range_of signature.now (term_of terms.now id) ≡ Some
-        range) }
-{
-    if id as usize >= terms.len() {
-        return None;
-    }
-    match terms.node(id) {
-        TermNode::Constant(sort) | TermNode::Skolem(_, sort, _) => Some(Range::Rec(sort)),
-        TermNode::Field(h, _) => {
-            let sig = signature.funs.get(h as usize)?;
-            Some(sig.to)
-        }
-        TermNode::Empty | TermNode::Cons(..) => None,
-    }
-}
 
 /// Whether a number is that of a term of which a table tells.
 fn is_listed(words: &Words, id: u32) -> bool
