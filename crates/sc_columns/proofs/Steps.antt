@@ -1,9 +1,10 @@
 -- The steps of loops.
-use Rattle.std.proofs.Common.{◌≡◌, ℕ, zero, suc, ◌+◌, ◌<◌, Bool, true, false, refl, List, [], ◌∷◌, ◌++◌, map, ap, arith, cond, not, Some, slice_get, inl, inr, subst, length, ◌≤◌}
+use Rattle.std.proofs.Common.{◌≡◌, ℕ, zero, suc, ◌+◌, ◌<◌, Bool, true, false, refl, List, [], ◌∷◌, ◌++◌, map, ap, arith, cond, not, Some, slice_get, inl, inr, subst, length, ◌≤◌, take, get_or, sym, ◌∙◌}
 use Rattle.std.proofs.lemmas.Bool.{cases_lt}
 use Rattle.std.specs.Prelude.{position, Contains}
 use Rattle.std.specs.List.{range_with_len, position_or_len}
 use Rattle.std.proofs.lemmas.List.FromFn.{map-range_with_len_more}
+use Rattle.std.proofs.lemmas.List.{map_more}
 use Rattle.sc_models.proofs.Steps.{slice_within}
 use Rattle.sc_terms.proofs.Lists.{Contains-head, Contains-tail}
 
@@ -34,3 +35,9 @@ so_more {X} P xs k before here j x less e =
 pub so_within : {X : Type 0} (P : ℕ → X → Type 0) (xs : List X) (k : ℕ) → length xs ≤ k → ((j : ℕ) (x : X) → j < k → slice_get xs j ≡ Some x → P j x)
     → (j : ℕ) (x : X) → slice_get xs j ≡ Some x → P j x
 so_within P xs k all before j x e = before j x (omega (arith, all, slice_within xs j x e)) e
+
+-- one more item, for a map
+pub mapped_more : {X Y : Type 0} (f : X → Y) (xs : List X) (i : ℕ) (d : X) (old new : List Y) (y : Y) → i < length xs → old ≡ map f (take i xs) → y ≡ f (get_or xs i d) → new ≡ old ++ y ∷ []
+    → new ≡ map f (take (i + 1) xs)
+mapped_more f xs i d old new y lt was own e =
+    e ∙ (ap (λ ys. ys ++ y ∷ []) was ∙ (ap (λ y. map f (take i xs) ++ y ∷ []) own ∙ sym (map_more f xs i d lt)))

@@ -65,7 +65,7 @@ module _ (terms : List TermNode) (placed : ArePlaced terms) (once : AreOnce term
     where
       by : (n : TermNode) → is_one n ≡ true → tree_from (trees_of terms) n ≡ one (term_part (tree_from (trees_of terms) n))
       by (Constant sort) own = refl
-      by (Skolem number sort ts) own = refl
+      by (Skolem i sort ts) own = refl
       by (Field h t) own = refl
       by NoTerms own = cc
       by (Cons t ts) own = cc
@@ -76,7 +76,7 @@ module _ (terms : List TermNode) (placed : ArePlaced terms) (once : AreOnce term
     where
       shape : (n : TermNode) → slice_get terms id ≡ Some n → is_tree_of t (tree_from (trees_of terms) n) ≡ true → (is_one n ≡ true) × (term_part (tree_from (trees_of terms) n) ≡ t)
       shape (Constant sort) e h = (refl, sym (same_term t (constant sort) h))
-      shape (Skolem number sort ts) e h = (refl, sym (same_term t _ h))
+      shape (Skolem i sort ts) e h = (refl, sym (same_term t _ h))
       shape (Field k u) e h = (refl, sym (same_term t _ h))
       shape NoTerms e h = cc
       shape (Cons u us) e h = cc
@@ -176,7 +176,7 @@ module _ (terms : List TermNode) (placed : ArePlaced terms) (once : AreOnce term
     typed_same g w typed t range there kind =
         let listed : Contains (terms_at terms (w.named.items ++ w.others.items)) t = subst (λ ts. Contains ts t) (sym (joined w.named.items w.others.items)) there in
         let (id, own, same) = in_map (term_of terms) (w.named.items ++ w.others.items) t listed in
-        let (k, at) = place own in
+        let (k, at) = place (w.named.items ++ w.others.items) id own in
         let h = typed k id at in
         let P : GroundTerm → Type 0 = λ t. IsOfRange range (a.value t) in
         let Q : SVal → Type 0 = λ x. IsOfRange range x in
@@ -186,8 +186,8 @@ module _ (terms : List TermNode) (placed : ArePlaced terms) (once : AreOnce term
         joined [] ys = refl
         joined (x ∷ xs) ys = ap (λ ts. term_of terms x ∷ ts) (joined xs ys)
 
-        place : {xs : List ℕ} {x : ℕ} → Contains xs x → (k : ℕ) × (slice_get xs k ≡ Some x)
-        place {xs} {x} h = (h.0, slice_get-get_or xs h.0 x h.1 ∙ ap (λ y. Some y) h.2)
+        place : (xs : List ℕ) (x : ℕ) → Contains xs x → (k : ℕ) × (slice_get xs k ≡ Some x)
+        place xs x h = (h.0, slice_get-get_or xs h.0 x h.1 ∙ ap (λ y. Some y) h.2)
 
     -- and what was found is its table
     pub found_same : (g : Signature) (found : Found) → AreFound terms pairs c found → IsFound g terms pairs found (table_for a)
@@ -228,7 +228,7 @@ module _ (terms : List TermNode) (placed : ArePlaced terms) (once : AreOnce term
           where
             shape : (n : TermNode) → is_one n ≡ true → term_part (tree_from (trees_of terms) n) ≡ constant sort → n ≡ Constant sort
             shape (Constant s) own same = let e : s ≡ sort = cc in ap (λ s. Constant s) e
-            shape (Skolem number s ts) own same = cc
+            shape (Skolem i s ts) own same = cc
             shape (Field k u) own same = cc
             shape NoTerms own same = cc
             shape (Cons u us) own same = cc

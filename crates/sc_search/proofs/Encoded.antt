@@ -48,7 +48,7 @@ range_split i (suc m) n =
     let moved : i + 1 + m ≡ i + suc m = omega arith in
     ap (range_with_len i) next ∙ ap (λ ks. i ∷ ks) (range_split (i + 1) m n ∙ ap (λ k. range_with_len (i + 1) m ++ range_with_len k n) moved)
 
-map-append : {X Y : Type 0} (f : X → Y) (xs ys : List X) → map f (xs ++ ys) ≡ map f xs ++ map f ys
+pub map-append : {X Y : Type 0} (f : X → Y) (xs ys : List X) → map f (xs ++ ys) ≡ map f xs ++ map f ys
 map-append f [] ys = refl
 map-append f (x ∷ xs) ys = ap (λ zs. f x ∷ zs) (map-append f xs ys)
 
@@ -74,14 +74,14 @@ one_not_below x y = grind (arith, ints)
 one_not_above : (x y : ℤ) → (not (int_eq x y) || (not (int_lt y x) || false)) ≡ true
 one_not_above x y = grind (arith, ints)
 
-abbrev if_true : Bool → PairLit EqualityLit Diff × PairLit EqualityLit Diff → PairLit EqualityLit Diff
+abbrev pub if_true : Bool → PairLit EqualityLit Diff × PairLit EqualityLit Diff → PairLit EqualityLit Diff
 if_true true pair = pair.0
 if_true false pair = pair.1
 
-abbrev same_lit : ℕ → ℕ → EqualityLit
+abbrev pub same_lit : ℕ → ℕ → EqualityLit
 same_lit c d = equality.Same c d
 
-cases-append : {X : Type 0} (xs ys : List X) (x : X) → Contains (xs ++ ys) x → Contains xs x ⊎ Contains ys x
+pub cases-append : {X : Type 0} (xs ys : List X) (x : X) → Contains (xs ++ ys) x → Contains xs x ⊎ Contains ys x
 cases-append [] ys x h = inr h
 cases-append {X} (z ∷ xs) ys x h =
     elim (Contains-cons_cases z (xs ++ ys) x h) [
@@ -90,16 +90,16 @@ cases-append {X} (z ∷ xs) ys x h =
     ]
 
 module _ (g : Signature) (nodes : List Node) (terms : List TermNode) (w : Words) (texts : List (List ℕ)) (spare : ℕ → List ℕ) (m : Model) (law : IsLawful g texts spare m (vocabulary_at terms w)) where
-  abbrev own : FactNode → Bool
+  abbrev pub own : FactNode → Bool
   own p = is_fact (assignment_of g texts spare m) (fact_at nodes terms p)
 
-  abbrev C : List ℕ
+  abbrev pub C : List ℕ
   C = class_column g nodes terms w texts spare m law
 
-  abbrev N : List ℤ
+  abbrev pub N : List ℤ
   N = number_column g nodes terms w texts spare m law
 
-  abbrev is_met : PairLit EqualityLit Diff → Bool
+  abbrev pub is_met : PairLit EqualityLit Diff → Bool
   is_met l = meets_own meets_literal meets (C, N) l
 
   -- the literal for the value of a fact is met
@@ -165,7 +165,7 @@ module _ (g : Signature) (nodes : List Node) (terms : List TermNode) (w : Words)
   own_long (p ∷ ps) (o ∷ as) h = ap suc (own_long ps as h.1)
 
   module _ (first vars : ℕ) (facts halves : List FactNode) (values : ℕ → Bool) (have : HaveValues nodes terms facts first (assignment_of g texts spare m) values) where
-    abbrev assignment : List Bool
+    abbrev pub assignment : List Bool
     assignment = map values (range_with_len 0 vars) ++ map own halves
 
     plain : length (map values (range_with_len 0 vars)) ≡ vars

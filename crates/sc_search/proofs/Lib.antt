@@ -1,3 +1,5 @@
 pub mod Encoded
+pub mod Glue
 pub mod Halved
 pub mod ModelColumns
+pub mod Solved

@@ -1,0 +1,103 @@
+-- What the search finds, as a table.
+use Rattle.std.proofs.Common.{◌≡◌, ℕ, zero, suc, ◌+◌, ◌<◌, Bool, true, false, ◌⊎◌, inl, inr, refl, sym, ◌∙◌, List, [], ◌∷◌, ◌++◌, Option, Some, None, IfSome, length, get_or, map, ap, subst, arith, Contains, slice_get, IsTrue, All}
+use Rattle.std.specs.Prelude.{unwrap_or}
+use Rattle.std.specs.List.{list_all}
+use Rattle.std.proofs.lemmas.Option.{slice_get-get_or}
+use Rattle.sc_ast.specs.Words.{IsText}
+use Rattle.sc_formula.specs.NormalForm.{IsNormal}
+use Rattle.sc_formula.specs.Nodes.{ArePlaced as AreNodesPlaced}
+use Rattle.sc_formula.specs.Over.{IsOver}
+use Rattle.sc_formula.specs.Trees.{Formula}
+use Rattle.sc_formula.specs.declared.node.Node.{Node}
+use Rattle.sc_formula.specs.declared.structure.Signature.{Signature}
+use Rattle.sc_gates.specs.Clauses.{meets_clause}
+use Rattle.sc_gates.specs.Gates.{ArePlaced as AreGatesPlaced}
+use Rattle.sc_gates.specs.declared.gate.Literal.{Literal}
+use Rattle.sc_terms.specs.GroundTerms.{GroundTerm}
+use Rattle.sc_terms.specs.Passing.{IsSatisfiableOver}
+use Rattle.sc_term_arena.specs.Nodes.{ArePlaced, AreOnce}
+use Rattle.sc_tables.specs.Clauses.{base_clauses, congruence_clauses}
+use Rattle.sc_tables.specs.Facts.{Assignment, Fact, is_fact, table_for}
+use Rattle.sc_tables.specs.Models.{Model, IsLawful, assignment_of}
+use Rattle.sc_tables.proofs.Assignments.{consistent_from}
+use Rattle.sc_grounding.specs.GroundClauses.{HaveFacts}
+use Rattle.sc_grounding.proofs.Grounded.{grounded, met_tables, met_read}
+use Rattle.sc_vocabulary.specs.Spoken.{IsSpoken}
+use Rattle.sc_vocabulary.specs.Words.{vocabulary_at, IsWords}
+use Rattle.sc_vocabulary.specs.declared.spoken.Spoken.{Spoken}
+use Rattle.sc_clauses.specs.Facts.{fact_at}
+use Rattle.sc_clauses.specs.declared.facts.FactNode.{FactNode}
+use Rattle.sc_clauses.specs.declared.ground.GroundClauses.{GroundClauses}
+use Rattle.sc_models.specs.declared.found.Found.{Found}
+use Rattle.sc_models.proofs.Steps.{slice_within, item_at}
+use Rattle.sc_mixed.specs.declared.mixture.Mixture.{Mixture}
+use Rattle.sc_columns.specs.Columns.{AreFound, AreTyped, IsTypedAt, IsSo, assignment_by}
+use Rattle.sc_columns.specs.declared.columns.Columns.{Columns}
+use Rattle.sc_term_arena.specs.declared.node.TermNode.{TermNode}
+use Rattle.sc_columns.proofs.Told.{so_same, typed_same, found_same}
+use Rattle.sc_search.specs.Problem.{AreSolved, HaveValues, IsNowhere}
+use Rattle.sc_search.specs.Tabled.{HasColumns, HasTable, IsGroundFor}
+use Rattle.sc_search.specs.Texts.{AreTexts}
+
+mapped : {X Y : Type 0} (f : X → Y) (xs : List X) (k : ℕ) (x : X) → slice_get xs k ≡ Some x → slice_get (map f xs) k ≡ Some (f x)
+mapped f [] k x e = cc
+mapped f (y ∷ xs) zero x e = let same : y ≡ x = cc in ap (λ x. Some (f x)) same
+mapped f (y ∷ xs) (suc k) x e = mapped f xs k x e
+
+unmapped : {X Y : Type 0} (f : X → Y) (xs : List X) (k : ℕ) (y : Y) → slice_get (map f xs) k ≡ Some y → (x : X) × (slice_get xs k ≡ Some x) × (f x ≡ y)
+unmapped f [] k y e = cc
+unmapped f (x ∷ xs) zero y e = (x, refl, (let same : f x ≡ y = cc in same))
+unmapped f (x ∷ xs) (suc k) y e = unmapped f xs k y e
+
+-- all texts of a list are texts
+texts_are : (texts : List (List ℕ)) → AreTexts texts → (w : List ℕ) → Contains texts w → IsText w
+texts_are texts h w (k, lt, same) = h k w (slice_get-get_or texts k w lt ∙ ap (λ t. Some t) same)
+
+typed_both : (g : Signature) (terms : List TermNode) (c : Columns) (xs ys : List ℕ) → AreTyped g terms c xs → AreTyped g terms c ys → AreTyped g terms c (xs ++ ys)
+typed_both g terms c [] ys h k = k
+typed_both g terms c (x ∷ xs) ys h k = by (typed_both g terms c xs ys (λ j id e. h (suc j) id e) k)
+  where
+    by : AreTyped g terms c (xs ++ ys) → (i id : ℕ) → slice_get (x ∷ xs ++ ys) i ≡ Some id → IsTypedAt g terms c id
+    by rest zero id e = h 0 id e
+    by rest (suc i) id e = rest i id e
+
+module _ (g : Signature) (nodes : List Node) (f : Formula) (ts : List GroundTerm) (closed : Bool) (s : Spoken) (ground : GroundClauses) (over : IsOver g [] f) (normal : IsNormal f)
+    (is : IsSpoken g nodes f ts closed s) (gr : IsGroundFor g nodes s ground) (gates : AreGatesPlaced s.made.gates) (first : ℕ) (begins : first ≡ length s.made.inputs) where
+  abbrev all : List (List Literal)
+  all = map (λ c. c.items) ground.clauses.items ++ map (λ c. c.items) ground.gates.items
+
+  abbrev facts : List Fact
+  facts = map (fact_at nodes s.made.terms) ground.facts.items
+
+  -- where no values are, no structure passes the formula
+  pub nowhere : (texts : List (List ℕ)) → AreTexts texts → IsNowhere g nodes s.made.terms s.words texts first ground.facts.items all → IsSatisfiableOver g f (Contains ts) → ⊥
+  nowhere texts are none sat =
+      let v = vocabulary_at s.made.terms s.words in
+      let cs = base_clauses g v ++ congruence_clauses g v in
+      let (spare, m, values, law, have, meet) =
+      grounded g f ts v cs texts nodes s.made facts all over normal is.vocabulary (texts_are texts are) is.instances gates gr.clauses (λ c here. here) sat in
+      none spare m values law (λ k p e. ap (λ n. values (n + k)) begins ∙ have k (fact_at nodes s.made.terms p) (mapped (fact_at nodes s.made.terms) ground.facts.items k p e)) meet
+
+  -- and where there are values and columns, there is a table
+  pub found_table : (m : Mixture) (found : Found) → AreNodesPlaced nodes → ArePlaced s.made.terms → AreOnce s.made.terms → AreSolved all m
+      → HasColumns g nodes s.made.terms s.words ground.facts.items first m.values.items found → HasTable g f ts s found
+  found_table m found formed placed once solved has =
+      let terms = s.made.terms in
+      let pairs = s.words.pairs.items in
+      let v = vocabulary_at terms s.words in
+      let cs = base_clauses g v ++ congruence_clauses g v in
+      let a : Assignment = assignment_by terms pairs has.columns in
+      let values : ℕ → Bool = λ x. unwrap_or (slice_get m.values.items x) false in
+      let have : HaveFacts s.made facts a values =
+      λ k q e.
+      let (p, there, same) = unmapped (fact_at nodes terms) ground.facts.items k q e in
+      ap (λ n. values (n + k)) (sym begins) ∙ (so_same terms placed once nodes formed pairs is.words.pairs has.columns p (values (first + k)) (has.so k p there) ∙ ap (is_fact a) same) in
+      let met = met_tables g f ts cs nodes s.made facts all over is.instances gates gr.clauses a values have solved.meet in
+      let read = met_read g f ts cs nodes s.made facts all over is.instances gates gr.clauses a values have solved.meet in
+      let typed = typed_same terms placed once nodes formed pairs is.words.pairs has.columns g s.words (typed_both g terms has.columns s.words.named.items s.words.others.items has.named_typed has.others_typed) in
+      record {
+        table = table_for a;
+        is_found = found_same terms placed once nodes formed pairs is.words.pairs has.columns g found has.is_found;
+        consistent = consistent_from g f ts v a is.vocabulary typed met;
+        reads = read;
+      }
