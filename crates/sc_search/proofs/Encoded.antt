@@ -127,42 +127,42 @@ module _ (g : Signature) (nodes : List Node) (terms : List TermNode) (w : Words)
 
   -- and so are all of a list
   abbrev AreMet : List Bool → List Atom → Type 0
-  AreMet [] as = Unit {0}
+  AreMet [] ls = Unit {0}
   AreMet (b ∷ bs) [] = Unit {0}
-  AreMet (b ∷ bs) (None ∷ as) = AreMet bs as
-  AreMet (b ∷ bs) (Some pair ∷ as) = IsTrue (is_met (if_true b pair)) × AreMet bs as
+  AreMet (b ∷ bs) (None ∷ ls) = AreMet bs ls
+  AreMet (b ∷ bs) (Some pair ∷ ls) = IsTrue (is_met (if_true b pair)) × AreMet bs ls
 
-  met_all : (bs : List Bool) (as : List Atom) → AreMet bs as → All (λ l. IsTrue (is_met l)) (theory_literals bs as)
-  met_all [] as h = All-nil (λ l. IsTrue (is_met l))
+  met_all : (bs : List Bool) (ls : List Atom) → AreMet bs ls → All (λ l. IsTrue (is_met l)) (theory_literals bs ls)
+  met_all [] ls h = All-nil (λ l. IsTrue (is_met l))
   met_all (b ∷ bs) [] h = All-nil (λ l. IsTrue (is_met l))
-  met_all (b ∷ bs) (None ∷ as) h = met_all bs as h
-  met_all (true ∷ bs) (Some pair ∷ as) h = All-cons (λ l. IsTrue (is_met l)) pair.0 (theory_literals bs as) h.0 (met_all bs as h.1)
-  met_all (false ∷ bs) (Some pair ∷ as) h = All-cons (λ l. IsTrue (is_met l)) pair.1 (theory_literals bs as) h.0 (met_all bs as h.1)
+  met_all (b ∷ bs) (None ∷ ls) h = met_all bs ls h
+  met_all (true ∷ bs) (Some pair ∷ ls) h = All-cons (λ l. IsTrue (is_met l)) pair.0 (theory_literals bs ls) h.0 (met_all bs ls h.1)
+  met_all (false ∷ bs) (Some pair ∷ ls) h = All-cons (λ l. IsTrue (is_met l)) pair.1 (theory_literals bs ls) h.0 (met_all bs ls h.1)
 
-  met_append : (bs cs : List Bool) (as ds : List Atom) → length bs ≡ length as → AreMet bs as → AreMet cs ds → AreMet (bs ++ cs) (as ++ ds)
+  met_append : (bs cs : List Bool) (ls ds : List Atom) → length bs ≡ length ls → AreMet bs ls → AreMet cs ds → AreMet (bs ++ cs) (ls ++ ds)
   met_append [] cs [] ds e h k = k
-  met_append [] cs (o ∷ as) ds e h k = absurd (omega arith)
+  met_append [] cs (o ∷ ls) ds e h k = absurd (omega arith)
   met_append (b ∷ bs) cs [] ds e h k = absurd (omega arith)
-  met_append (b ∷ bs) cs (None ∷ as) ds e h k = met_append bs cs as ds (omega arith) h k
-  met_append (b ∷ bs) cs (Some pair ∷ as) ds e h k = (h.0, met_append bs cs as ds (omega arith) h.1 k)
+  met_append (b ∷ bs) cs (None ∷ ls) ds e h k = met_append bs cs ls ds (omega arith) h k
+  met_append (b ∷ bs) cs (Some pair ∷ ls) ds e h k = (h.0, met_append bs cs ls ds (omega arith) h.1 k)
 
   none_met : (bs : List Bool) (n : ℕ) → AreMet bs (replicate n None)
   none_met [] n = tt
   none_met (b ∷ bs) zero = tt
   none_met (b ∷ bs) (suc n) = none_met bs n
 
-  own_met : (ps : List FactNode) (as : List Atom) → AreAtomsOf g nodes terms w texts ps as → AreMet (map own ps) as
+  own_met : (ps : List FactNode) (ls : List Atom) → AreAtomsOf g nodes terms w texts ps ls → AreMet (map own ps) ls
   own_met [] [] h = tt
-  own_met [] (o ∷ as) h = absurd h
+  own_met [] (o ∷ ls) h = absurd h
   own_met (p ∷ ps) [] h = absurd h
-  own_met (p ∷ ps) (None ∷ as) h = own_met ps as h.1
-  own_met (p ∷ ps) (Some pair ∷ as) h = (atom_met p pair h.0, own_met ps as h.1)
+  own_met (p ∷ ps) (None ∷ ls) h = own_met ps ls h.1
+  own_met (p ∷ ps) (Some pair ∷ ls) h = (atom_met p pair h.0, own_met ps ls h.1)
 
-  own_long : (ps : List FactNode) (as : List Atom) → AreAtomsOf g nodes terms w texts ps as → length ps ≡ length as
+  own_long : (ps : List FactNode) (ls : List Atom) → AreAtomsOf g nodes terms w texts ps ls → length ps ≡ length ls
   own_long [] [] h = refl
-  own_long [] (o ∷ as) h = absurd h
+  own_long [] (o ∷ ls) h = absurd h
   own_long (p ∷ ps) [] h = absurd h
-  own_long (p ∷ ps) (o ∷ as) h = ap suc (own_long ps as h.1)
+  own_long (p ∷ ps) (o ∷ ls) h = ap suc (own_long ps ls h.1)
 
   module _ (first vars : ℕ) (facts halves : List FactNode) (values : ℕ → Bool) (have : HaveValues nodes terms facts first (assignment_of g texts spare m) values) where
     abbrev pub assignment : List Bool
@@ -262,7 +262,7 @@ module _ (g : Signature) (nodes : List Node) (terms : List TermNode) (w : Words)
         omega (arith, length-append left (mid ++ right), length-append mid right, length-append (replicate {Atom} first None) (h.own ++ replicate h.gap None), length-append h.own (replicate h.gap None), first_long, right_long, mid_long) in
         let all_met = met_append (left ++ (mid ++ right)) (map own halves) (replicate first None ++ (h.own ++ replicate h.gap None)) h.others front_long front_met (own_met halves h.others h.others_are) in
         let P : List Bool → Type 0 = λ bs. AreMet (bs ++ map own halves) atoms in
-        let Q : List Atom → Type 0 = λ as. AreMet ((left ++ (mid ++ right)) ++ map own halves) as in
+        let Q : List Atom → Type 0 = λ ls. AreMet ((left ++ (mid ++ right)) ++ map own halves) ls in
         met_all assignment atoms (subst P (sym halved) (subst Q (sym h.whole) all_met))
       where
         zero_plus : (n : ℕ) → 0 + n ≡ n

@@ -86,12 +86,12 @@ module _ (g : Signature) (nodes : List Node) (terms : List TermNode) (w : Words)
   pub no_atoms_more : (old : List Atom) → AddsAtoms g nodes terms w texts [] old old
   no_atoms_more old = record { more = []; are = tt; whole = sym (append-nil old) }
 
-  one_more : (ps : List FactNode) (as : List Atom) (p : FactNode) (a : Atom) → AreAtomsOf g nodes terms w texts ps as → IfSome a (IsAtomOf g nodes terms w texts p)
-      → AreAtomsOf g nodes terms w texts (ps ++ p ∷ []) (as ++ a ∷ [])
+  one_more : (ps : List FactNode) (ls : List Atom) (p : FactNode) (a : Atom) → AreAtomsOf g nodes terms w texts ps ls → IfSome a (IsAtomOf g nodes terms w texts p)
+      → AreAtomsOf g nodes terms w texts (ps ++ p ∷ []) (ls ++ a ∷ [])
   one_more [] [] p a h k = (k, tt)
-  one_more [] (b ∷ as) p a h k = absurd h
+  one_more [] (b ∷ ls) p a h k = absurd h
   one_more (q ∷ ps) [] p a h k = absurd h
-  one_more (q ∷ ps) (b ∷ as) p a h k = (h.0, one_more ps as p a h.1 k)
+  one_more (q ∷ ps) (b ∷ ls) p a h k = (h.0, one_more ps ls p a h.1 k)
 
   take_more : (xs : List FactNode) (i : ℕ) (d : FactNode) → i < length xs → take (i + 1) xs ≡ take i xs ++ get_or xs i d ∷ []
   take_more [] i d lt = absurd (omega arith)
@@ -105,5 +105,5 @@ module _ (g : Signature) (nodes : List Node) (terms : List TermNode) (w : Words)
       record {
         more = h.more ++ atom ∷ [];
         are = subst P (sym (take_more facts i d lt)) (one_more (take i facts) h.more (get_or facts i d) atom h.are k);
-        whole = e ∙ (ap (λ as. as ++ atom ∷ []) h.whole ∙ append_assoc old h.more (atom ∷ []));
+        whole = e ∙ (ap (λ ls. ls ++ atom ∷ []) h.whole ∙ append_assoc old h.more (atom ∷ []));
       }

@@ -3,3 +3,4 @@ pub mod Glue
 pub mod Halved
 pub mod ModelColumns
 pub mod Solved
+pub mod TextLists

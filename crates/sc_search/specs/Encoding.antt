@@ -114,9 +114,9 @@ module _ (g : Signature) (nodes : List Node) (terms : List TermNode) (w : Words)
   -- and of facts, one by one, of which some have none
   abbrev pub AreAtomsOf : List FactNode → List Atom → Type 0
   AreAtomsOf [] [] = Unit {0}
-  AreAtomsOf [] (a ∷ as) = ⊥
+  AreAtomsOf [] (a ∷ ls) = ⊥
   AreAtomsOf (p ∷ ps) [] = ⊥
-  AreAtomsOf (p ∷ ps) (a ∷ as) = IfSome a (IsAtomOf p) × AreAtomsOf ps as
+  AreAtomsOf (p ∷ ps) (a ∷ ls) = IfSome a (IsAtomOf p) × AreAtomsOf ps ls
 
   -- the variables below the first have no literals, then come those of facts, then others without, and then those of halves
   pub record AreAtomsFor (first vars : ℕ) (facts halves : List FactNode) (atoms : List Atom) : Type 0 where

@@ -1,7 +1,7 @@
 //! The texts of facts.
 
-ghost use Rattle.std.specs.Prelude.{◌≡◌, ◌⊎◌, ◌++◌, ◌∷◌, [], Contains, IfOk, OnOk};
-ghost use Rattle.sc_search.specs.Texts.{AddsText, AreTexts, KeepsOnce, StandOnce};
+ghost use Rattle.std.specs.Prelude.{IfOk, OnOk};
+ghost use Rattle.sc_search.specs.Texts.{AreTexts, KeepsOnce, StandOnce};
 
 use crate::sides::place_of;
 use sc_ast::Txt;
@@ -12,14 +12,16 @@ use std::alloc::{AllocError, Global};
 
 /// Puts a text at the end, if it is not there.
 fn add_text(alloc: Global, text: &Txt, texts: &mut Vec<Txt>) -> Result<(), AllocError>
-    ensures { OnOk result (AddsText text.now texts.old.items texts.new.items) }
+    ensures { OnOk result (KeepsOnce texts.old.items texts.new.items) }
 {
-    if place_of(texts.as_slice(), text).is_some() {
-        return Ok(());
+    match place_of(texts.as_slice(), text) {
+        Some(_) => Ok(()),
+        None => {
+            let copy = text.copy(alloc)?;
+            texts.push(copy)?;
+            Ok(())
+        }
     }
-    let copy = text.copy(alloc)?;
-    texts.push(copy)?;
-    Ok(())
 }
 
 /// Puts the text of a value at the end, if it is one.
