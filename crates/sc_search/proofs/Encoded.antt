@@ -41,7 +41,7 @@ use Rattle.sc_search.specs.Encoding.{difference, IsAtomOf, AreAtomsOf, AreAtomsF
 use Rattle.sc_search.specs.Problem.{plit_of, HaveValues}
 use Rattle.sc_search.proofs.ModelColumns.{a, class_column, number_column, below_difference, above_difference, same_numbers, lower_numbers, same_met, classes_fit, numbers_fit}
 
-range_split : (i m n : ℕ) → range_with_len i (m + n) ≡ range_with_len i m ++ range_with_len (i + m) n
+pub range_split : (i m n : ℕ) → range_with_len i (m + n) ≡ range_with_len i m ++ range_with_len (i + m) n
 range_split i zero n = let none : i + 0 ≡ i = omega arith in let less : 0 + n ≡ n = omega arith in ap (range_with_len i) less ∙ sym (ap (λ k. range_with_len k n) none)
 range_split i (suc m) n =
     let next : suc m + n ≡ suc (m + n) = omega arith in
@@ -221,12 +221,17 @@ module _ (g : Signature) (nodes : List Node) (terms : List TermNode) (w : Words)
         let q : value_at assignment e ≡ int_lt A B = two ∙ lower_numbers g nodes terms w texts spare m law h.v h.u h.left.0 h.right.0 h.left.1 h.right.1 h.left.2 h.right.2 in
         let r : value_at assignment (e + 1) ≡ int_lt B A = three ∙ lower_numbers g nodes terms w texts spare m law h.u h.v h.right.0 h.left.0 h.right.1 h.left.1 h.right.2 h.left.2 in
         let P : List PLit → Type 0 = λ c. meets_clause assignment c ≡ true in
-        elim (Contains-cons_cases _ _ c there) [
-          | inl e ↦ subst P e (ap (λ b. b || (value_at assignment _ || (value_at assignment _ || false))) p ∙ (ap (λ b. int_eq A B || (b || (value_at assignment _ || false))) q ∙ (ap (λ b. int_eq A B || (int_lt A B || (b || false))) r ∙ apart_or_one A B)))
-          | inr rest ↦ elim (Contains-cons_cases _ _ c rest) [
-            | inl e ↦ subst P e (ap (λ b. not b || (not (value_at assignment _) || false)) p ∙ (ap (λ b. not (int_eq A B) || (not b || false)) q ∙ one_not_below A B))
-            | inr last ↦ elim (Contains-cons_cases _ _ c last) [
-              | inl e ↦ subst P e (ap (λ b. not b || (not (value_at assignment _) || false)) p ∙ (ap (λ b. not (int_eq A B) || (not b || false)) r ∙ one_not_above A B))
+        let one_of : List PLit = positive x ∷ positive e ∷ positive (e + 1) ∷ [] in
+        let not_below : List PLit = negative x ∷ negative e ∷ [] in
+        let not_above : List PLit = negative x ∷ negative (e + 1) ∷ [] in
+        let b = value_at assignment e in
+        let d = value_at assignment (e + 1) in
+        elim (Contains-cons_cases one_of (not_below ∷ not_above ∷ []) c there) [
+          | inl same ↦ subst P same (ap (λ z. z || (b || (d || false))) p ∙ (ap (λ z. int_eq A B || (z || (d || false))) q ∙ (ap (λ z. int_eq A B || (int_lt A B || (z || false))) r ∙ apart_or_one A B)))
+          | inr rest ↦ elim (Contains-cons_cases not_below (not_above ∷ []) c rest) [
+            | inl same ↦ subst P same (ap (λ z. not z || (not b || false)) p ∙ (ap (λ z. not (int_eq A B) || (not z || false)) q ∙ one_not_below A B))
+            | inr last ↦ elim (Contains-cons_cases not_above [] c last) [
+              | inl same ↦ subst P same (ap (λ z. not z || (not d || false)) p ∙ (ap (λ z. not (int_eq A B) || (not z || false)) r ∙ one_not_above A B))
               | inr none ↦ Contains-none c none
             ]
           ]
@@ -253,14 +258,16 @@ module _ (g : Signature) (nodes : List Node) (terms : List TermNode) (w : Words)
         ∙ ap (λ bs. left ++ bs) (ap (λ n. map values (range_with_len n (length facts))) (zero_plus first) ∙ own_values first facts have))
         ∙ append_assoc left mid right))) in
         let own_are = own_long facts h.own h.own_are in
-        let first_long : length left ≡ length (replicate {Atom} first None) = length-map-range_with_len values 0 first ∙ sym (length-replicate None first) in
-        let right_long : length right ≡ length (replicate {Atom} h.gap None) = length-map-range_with_len values (0 + (first + length facts)) h.gap ∙ sym (length-replicate None h.gap) in
+        let none_first : List Atom = replicate first None in
+        let none_gap : List Atom = replicate h.gap None in
+        let first_long : length left ≡ length none_first = length-map-range_with_len values 0 first ∙ sym (length-replicate None first) in
+        let right_long : length right ≡ length none_gap = length-map-range_with_len values (0 + (first + length facts)) h.gap ∙ sym (length-replicate None h.gap) in
         let mid_long : length mid ≡ length h.own = length-map own facts ∙ own_are in
-        let inner_met = met_append mid right h.own (replicate h.gap None) mid_long (own_met facts h.own h.own_are) (none_met right h.gap) in
-        let front_met = met_append left (mid ++ right) (replicate first None) (h.own ++ replicate h.gap None) first_long (none_met left first) inner_met in
-        let front_long : length (left ++ (mid ++ right)) ≡ length (replicate first None ++ (h.own ++ replicate h.gap None)) =
-        omega (arith, length-append left (mid ++ right), length-append mid right, length-append (replicate {Atom} first None) (h.own ++ replicate h.gap None), length-append h.own (replicate h.gap None), first_long, right_long, mid_long) in
-        let all_met = met_append (left ++ (mid ++ right)) (map own halves) (replicate first None ++ (h.own ++ replicate h.gap None)) h.others front_long front_met (own_met halves h.others h.others_are) in
+        let inner_met = met_append mid right h.own none_gap mid_long (own_met facts h.own h.own_are) (none_met right h.gap) in
+        let front_met = met_append left (mid ++ right) none_first (h.own ++ none_gap) first_long (none_met left first) inner_met in
+        let front_long : length (left ++ (mid ++ right)) ≡ length (none_first ++ (h.own ++ none_gap)) =
+        omega (arith, length-append left (mid ++ right), length-append mid right, length-append none_first (h.own ++ none_gap), length-append h.own none_gap, first_long, right_long, mid_long) in
+        let all_met = met_append (left ++ (mid ++ right)) (map own halves) (none_first ++ (h.own ++ none_gap)) h.others front_long front_met (own_met halves h.others h.others_are) in
         let P : List Bool → Type 0 = λ bs. AreMet (bs ++ map own halves) atoms in
         let Q : List Atom → Type 0 = λ ls. AreMet ((left ++ (mid ++ right)) ++ map own halves) ls in
         met_all assignment atoms (subst P (sym halved) (subst Q (sym h.whole) all_met))

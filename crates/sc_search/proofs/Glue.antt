@@ -17,15 +17,17 @@ use Rattle.sc_terms.specs.GroundTerms.{GroundTerm}
 use Rattle.sc_terms.specs.Passing.{IsSatisfiableOver}
 use Rattle.sc_term_arena.specs.Nodes.{ArePlaced, AreOnce}
 use Rattle.sc_tables.specs.Clauses.{base_clauses, congruence_clauses}
-use Rattle.sc_tables.specs.Facts.{Assignment, Fact, is_fact, table_for}
+use Rattle.sc_tables.specs.Facts.{Assignment, Clause, Fact, is_fact, table_for}
 use Rattle.sc_tables.specs.Models.{Model, IsLawful, assignment_of}
 use Rattle.sc_tables.proofs.Assignments.{consistent_from}
-use Rattle.sc_grounding.specs.GroundClauses.{HaveFacts}
+use Rattle.sc_grounding.specs.GroundClauses.{AreGroundClauses, HaveFacts}
 use Rattle.sc_grounding.proofs.Grounded.{grounded, met_tables, met_read}
 use Rattle.sc_vocabulary.specs.Spoken.{IsSpoken}
 use Rattle.sc_vocabulary.specs.Words.{vocabulary_at, IsWords}
 use Rattle.sc_vocabulary.specs.declared.spoken.Spoken.{Spoken}
-use Rattle.sc_clauses.specs.Facts.{fact_at}
+use Rattle.sc_vocabulary.specs.declared.words.Words.{Words}
+use Rattle.sc_clauses.specs.Facts.{fact_at, clause_at, clauses_at}
+use Rattle.sc_clauses.specs.declared.facts.FactLiteral.{FactLiteral}
 use Rattle.sc_clauses.specs.declared.facts.FactNode.{FactNode}
 use Rattle.sc_clauses.specs.declared.ground.GroundClauses.{GroundClauses}
 use Rattle.sc_models.specs.declared.found.Found.{Found}
@@ -36,7 +38,9 @@ use Rattle.sc_columns.specs.declared.columns.Columns.{Columns}
 use Rattle.sc_term_arena.specs.declared.node.TermNode.{TermNode}
 use Rattle.sc_columns.proofs.Told.{so_same, typed_same, found_same}
 use Rattle.sc_search.specs.Problem.{AreSolved, HaveValues, IsNowhere}
-use Rattle.sc_search.specs.Tabled.{HasColumns, HasTable, IsGroundFor}
+use Rattle.sc_search.specs.Tabled.{HasColumns, HasTable, IsGroundFor, IsTabled}
+use Rattle.sc_search.specs.declared.tabled.Tabled.{Tabled}
+use Rattle.sc_search.proofs.Encoded.{map-append}
 use Rattle.sc_search.specs.Texts.{AreTexts}
 
 mapped : {X Y : Type 0} (f : X → Y) (xs : List X) (k : ℕ) (x : X) → slice_get xs k ≡ Some x → slice_get (map f xs) k ≡ Some (f x)
@@ -101,3 +105,41 @@ module _ (g : Signature) (nodes : List Node) (f : Formula) (ts : List GroundTerm
         consistent = consistent_from g f ts v a is.vocabulary typed met;
         reads = read;
       }
+
+tabled_same : (t : Tabled) (x : List TermNode) (y : Words) (z : Found) → t.terms ≡ x → t.words ≡ y → t.found ≡ z → record { terms = x; words = y; found = z } ≡ t
+tabled_same t x y z p q r =
+    let P : List TermNode → Tabled = λ u. record { terms = u; words = y; found = z } in
+    let Q : Words → Tabled = λ u. record { terms = t.terms; words = u; found = z } in
+    let R : Found → Tabled = λ u. record { terms = t.terms; words = t.words; found = u } in
+    ap P (sym p) ∙ (ap Q (sym q) ∙ ap R (sym r))
+
+-- what was found, with what it is read by
+pub tabled_by : (g : Signature) (nodes : List Node) (f : Formula) (ts : List GroundTerm) (closed : Bool) (s : Spoken) (found : Found) (t : Tabled) → IsSpoken g nodes f ts closed s → HasTable g f ts s found
+    → t.terms ≡ s.made.terms → t.words ≡ s.words → t.found ≡ found → IsTabled g f ts closed t
+tabled_by g nodes f ts closed s found t is has p q r =
+    subst (λ (t : Tabled). IsTabled g f ts closed t) (tabled_same t s.made.terms s.words found p q r)
+    (record {
+      numbers = is.words;
+      words = is.vocabulary;
+      within = is.within;
+      table = has.table;
+      found = has.is_found;
+      consistent = has.consistent;
+      reads = has.reads;
+    })
+
+-- the clauses say that the formula holds and its table is consistent
+pub ground_for : (g : Signature) (nodes : List Node) (s : Spoken) (ground : GroundClauses) (cs : List Clause)
+    → AreGroundClauses s.made (map (fact_at nodes s.made.terms) ground.facts.items) nodes cs (map (λ c. c.items) ground.clauses.items ++ map (λ c. c.items) ground.gates.items)
+    → cs ≡ base_clauses g (vocabulary_at s.made.terms s.words) ++ congruence_clauses g (vocabulary_at s.made.terms s.words) → IsGroundFor g nodes s ground
+ground_for g nodes s ground cs h same = record {
+  clauses =
+      subst (λ (cs : List Clause). AreGroundClauses s.made (map (fact_at nodes s.made.terms) ground.facts.items) nodes cs (map (λ c. c.items) ground.clauses.items ++ map (λ c. c.items) ground.gates.items))
+      same h;
+}
+
+-- the clauses of two lists
+pub both_clauses : (nodes : List Node) (terms : List TermNode) (left right both : List (List FactLiteral)) (base congruence : List Clause) → both ≡ left ++ right → clauses_at nodes terms left ≡ base
+    → clauses_at nodes terms right ≡ congruence → clauses_at nodes terms both ≡ base ++ congruence
+both_clauses nodes terms left right both base congruence e h k =
+    ap (clauses_at nodes terms) e ∙ (map-append (clause_at nodes terms) left right ∙ (ap (λ cs. cs ++ clauses_at nodes terms right) h ∙ ap (λ cs. base ++ cs) k))

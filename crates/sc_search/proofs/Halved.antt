@@ -12,7 +12,16 @@ use Rattle.sc_vocabulary.specs.declared.words.Words.{Words}
 use Rattle.sc_clauses.specs.declared.facts.FactNode.{FactNode}
 use Rattle.sc_clauses.specs.declared.facts.FactNode.TheVariants.{Same, Below}
 use Rattle.sc_search.specs.declared.halves.Halves.{Halves}
-use Rattle.sc_search.specs.Encoding.{AddsAtoms, AreAtomsOf, AreLinked, AreSameNumbers, IsAtomOf, IsHalved, link_clauses}
+use Rattle.sc_search.specs.Encoding.{AddsAtoms, AreAtomsFor, AreAtomsOf, AreLinked, AreSameNumbers, IsAtomOf, IsBelowAtom, IsBelowOf, IsElement, IsHalved, IsSameAtom, IsSameOf, IsSide, IsTold, link_clauses}
+use Rattle.sc_search.specs.declared.sides.Side.{Side}
+use Rattle.sc_search.specs.declared.sides.Side.TheVariants as side
+use Rattle.sc_pair.specs.declared.pair.PairLit.{PairLit}
+use Rattle.sc_equality.specs.declared.literal.EqualityLit.{EqualityLit}
+use Rattle.sc_order.specs.declared.diff.Diff.{Diff}
+use Rattle.sc_term_arena.specs.Nodes.{IsOne, term_of}
+use Rattle.sc_terms.proofs.Listed.{to_map}
+use Rattle.std.specs.Prelude.{None, replicate}
+use Rattle.std.proofs.lemmas.List.Elements.{Contains-append_left, Contains-append_right}
 use Rattle.sc_search.specs.Halving.{GoesOnHalving, HasHalves}
 use Rattle.sc_search.proofs.Encoded.{cases-append}
 
@@ -27,8 +36,8 @@ slice_behind (x ∷ xs) ys j = let next : suc (length xs) + j ≡ suc (length xs
 
 module _ (g : Signature) (nodes : List Node) (terms : List TermNode) (w : Words) (texts : List (List ℕ)) where
   -- nothing is linked
-  pub none_linked : (first vars : ℕ) (facts halves : List FactNode) (links : List (List PLit)) → links ≡ [] → AreLinked g nodes terms w texts first vars facts halves links
-  none_linked first vars facts halves links e = record { linked = λ c there. let P : List (List PLit) → Type 0 = λ cs. Contains cs c in Contains-none c (subst P e there) }
+  pub none_linked : {V : Type 0} (first vars : ℕ) (facts halves : List FactNode) (vs : List V) (items : V → List PLit) → vs ≡ [] → AreLinked g nodes terms w texts first vars facts halves (map items vs)
+  none_linked first vars facts halves vs items e = record { linked = λ c there. Contains-none c (subst (λ (cs : List (List PLit)). Contains cs c) (ap (map items) e) there) }
 
   -- one more fact
   pub halves_more : (first vars k x : ℕ) (facts : List FactNode) (fact : FactNode) (old new : Halves) → slice_get facts k ≡ Some fact → x ≡ first + k
@@ -107,3 +116,58 @@ module _ (g : Signature) (nodes : List Node) (terms : List TermNode) (w : Words)
         are = subst P (sym (take_more facts i d lt)) (one_more (take i facts) h.more (get_or facts i d) atom h.are k);
         whole = e ∙ (ap (λ ls. ls ++ atom ∷ []) h.whole ∙ append_assoc old h.more (atom ∷ []));
       }
+
+  -- the literals of all variables
+  pub atoms_whole : (first vars gap : ℕ) (facts halves : List FactNode) (a1 a2 a3 a4 : List Atom) → a1 ≡ replicate first None → AddsAtoms g nodes terms w texts facts a1 a2 → a3 ≡ a2 ++ replicate gap None
+      → AddsAtoms g nodes terms w texts halves a3 a4 → first + length facts + gap ≡ vars → AreAtomsFor g nodes terms w texts first vars facts halves a4
+  atoms_whole first vars gap facts halves a1 a2 a3 a4 p q r s t =
+      let front : List Atom = replicate first None in
+      let back : List Atom = replicate gap None in
+      let second : a2 ≡ front ++ q.more = q.whole ∙ ap (λ ls. ls ++ q.more) p in
+      let third : a3 ≡ front ++ (q.more ++ back) = r ∙ (ap (λ ls. ls ++ back) second ∙ append_assoc front q.more back) in
+      record {
+        own = q.more;
+        own_are = q.are;
+        gap = gap;
+        to_gap = t;
+        others = s.more;
+        others_are = s.are;
+        whole = s.whole ∙ ap (λ ls. ls ++ s.more) third;
+      }
+
+  -- the literals of an equality and of a comparison
+  pub same_sides : (v u : Value) (s t : Side) (pair : PairLit EqualityLit Diff × PairLit EqualityLit Diff) → IsSide g nodes terms w texts v s → IsSide g nodes terms w texts u t → IsSameOf s t pair
+      → IsSameAtom g nodes terms w texts v u pair
+  same_sides v u (side.Element sort x) (side.Element other y) pair p q h = record {
+    left = x;
+    right = y;
+    sides = inl (record { sort = sort; left = p; right = subst (λ (o : ℕ). IsElement g nodes terms w texts u o y) (sym h.0) q });
+    when_true = h.1.0;
+    when_false = h.1.1;
+  }
+  same_sides v u (side.Element sort x) (side.Text y) pair p q h = absurd h
+  same_sides v u (side.Element sort x) (side.Number y o) pair p q h = absurd h
+  same_sides v u (side.Text x) (side.Element other y) pair p q h = absurd h
+  same_sides v u (side.Text x) (side.Text y) pair p q h = record { left = x; right = y; sides = inr (record { left = p; right = q }); when_true = h.0; when_false = h.1 }
+  same_sides v u (side.Text x) (side.Number y o) pair p q h = absurd h
+  same_sides v u (side.Number x o) (side.Element other y) pair p q h = absurd h
+  same_sides v u (side.Number x o) (side.Text y) pair p q h = absurd h
+  same_sides v u (side.Number x o) (side.Number y r) pair p q h = absurd h
+
+  pub below_sides : (v u : Value) (s t : Side) (pair : PairLit EqualityLit Diff × PairLit EqualityLit Diff) → IsSide g nodes terms w texts v s → IsSide g nodes terms w texts u t → IsBelowOf s t pair
+      → IsBelowAtom g nodes terms w texts v u pair
+  below_sides v u (side.Element sort x) t pair p q h = absurd h
+  below_sides v u (side.Text x) t pair p q h = absurd h
+  below_sides v u (side.Number x o) (side.Element other y) pair p q h = absurd h
+  below_sides v u (side.Number x o) (side.Text y) pair p q h = absurd h
+  below_sides v u (side.Number x o) (side.Number y r) pair p q h = record { x = x; y = y; o = o; q = r; left = p; right = q; when_true = h.0; when_false = h.1 }
+
+  -- a listed number is that of a told term
+  pub told_by : (id : ℕ) → IsOne terms id → Contains (w.named.items ++ w.others.items) id → IsTold g nodes terms w texts id
+  told_by id one there = record {
+    one = one;
+    is_told = elim (cases-append w.named.items w.others.items id there) [
+          | inl k ↦ Contains-append_left (map (term_of terms) w.named.items) (map (term_of terms) w.others.items) (term_of terms id) (to_map (term_of terms) w.named.items id k)
+          | inr k ↦ Contains-append_right (map (term_of terms) w.named.items) (map (term_of terms) w.others.items) (term_of terms id) (to_map (term_of terms) w.others.items id k)
+        ];
+  }

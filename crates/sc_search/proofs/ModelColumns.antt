@@ -83,11 +83,11 @@ below_test : (m n : ℕ) → m < n → nat_lt m n ≡ true
 below_test m n h = below m n h
 
 -- one number is below another where their difference is
-below_difference : (vx vy o q : ℤ) → int_le (vx -ℤ vy) ((q -ℤ o) -ℤ pos 1) ≡ int_lt (vx +ℤ o) (vy +ℤ q)
+pub below_difference : (vx vy o q : ℤ) → int_le (vx -ℤ vy) ((q -ℤ o) -ℤ pos 1) ≡ int_lt (vx +ℤ o) (vy +ℤ q)
 below_difference vx vy o q =
     same_bools (int_le (vx -ℤ vy) ((q -ℤ o) -ℤ pos 1)) (int_lt (vx +ℤ o) (vy +ℤ q))
     (λ e. let h : (vx -ℤ vy) ≤ℤ ((q -ℤ o) -ℤ pos 1) = le_from_test _ _ e in lt_test (vx +ℤ o) (vy +ℤ q) (omega (arith, ints)))
-    (λ e. let h : ((vx +ℤ o) +ℤ pos 1) ≤ℤ (vy +ℤ q) = lt_fact (vx +ℤ o) (vy +ℤ q) e in test_from_le _ _ (omega (arith, ints)))
+    (λ e. let h : ((vx +ℤ o) +ℤ pos 1) ≤ℤ (vy +ℤ q) = lt_fact (vx +ℤ o) (vy +ℤ q) e in test_from_le (vx -ℤ vy) ((q -ℤ o) -ℤ pos 1) (omega (arith, ints)))
   where
     lt_test : (a b : ℤ) → (a +ℤ pos 1) ≤ℤ b → int_lt a b ≡ true
     lt_test a b h = grind (arith, ints)
@@ -95,7 +95,7 @@ below_difference vx vy o q =
     lt_fact : (a b : ℤ) → int_lt a b ≡ true → (a +ℤ pos 1) ≤ℤ b
     lt_fact a b h = grind (arith, ints)
 
-above_difference : (vx vy o q : ℤ) → int_le (vy -ℤ vx) (o -ℤ q) ≡ not (int_lt (vx +ℤ o) (vy +ℤ q))
+pub above_difference : (vx vy o q : ℤ) → int_le (vy -ℤ vx) (o -ℤ q) ≡ not (int_lt (vx +ℤ o) (vy +ℤ q))
 above_difference vx vy o q = by (int_lt (vx +ℤ o) (vy +ℤ q)) refl
   where
     lt_fact : (a b : ℤ) → int_lt a b ≡ true → (a +ℤ pos 1) ≤ℤ b

@@ -33,6 +33,10 @@ pub ok_too : {T E : Type 0} (r : Result T E) (P Q : T → Type 0) → ((x : T) �
 ok_too (Ok x) P Q h k = h x k
 ok_too (Err e) P Q h k = tt
 
+pub some_too : {T : Type 0} (o : Option T) (P Q : T → Type 0) → ((x : T) → P x → Q x) → IfSome o P → IfSome o Q
+some_too (Some x) P Q h k = h x k
+some_too None P Q h k = tt
+
 index_or : (xs : List Bool) (i : ℕ) → unwrap_or (slice_get xs i) false ≡ get_or xs i false
 index_or [] i = refl
 index_or (x ∷ xs) zero = refl
@@ -102,3 +106,7 @@ solved_by n left right links all m s h = record {
     same : (c : List Literal) → meets_clause m.values.items (map plit_of c) ≡ gate_meets_clause (λ x. unwrap_or (slice_get m.values.items x) false) c
     same [] = refl
     same (l ∷ c) = let here = one l in let later = same c in cc
+
+pub each_below : {V : Type 0} (items : V → List Literal) (bound : ℕ) (cs : List V) → All (λ v. AreBelow bound (items v)) cs → (c : List Literal) → Contains (map items cs) c → AreBelow bound c
+each_below items bound cs h c there =
+    let (v, listed, same) = in_map items cs c there in subst (λ (c : List Literal). AreBelow bound c) same (All-Contains (λ v. AreBelow bound (items v)) cs v h listed)

@@ -1,5 +1,9 @@
 -- Lists in which no text stands twice.
-use Rattle.std.proofs.Common.{◌≡◌, ℕ, zero, suc, ◌⊎◌, inl, inr, refl, sym, ◌∙◌, List, [], ◌∷◌, ◌++◌, Some, length, ap, subst, Contains, slice_get}
+use Rattle.std.proofs.Common.{◌≡◌, ℕ, zero, suc, ◌<◌, ◌≤◌, ◌⊎◌, inl, inr, refl, sym, ◌∙◌, true, false, List, [], ◌∷◌, ◌++◌, Some, length, ap, subst, arith, Contains, slice_get}
+use Rattle.std.specs.Prelude.{nat_eq}
+use Rattle.std.specs.Cmp.Lexicographic.{pointwise}
+use Rattle.std.proofs.lemmas.Option.{slice_get-get_or}
+use Rattle.sc_tables.proofs.Assigned.{text_same}
 use Rattle.sc_terms.proofs.Lists.{Contains-head, Contains-tail}
 use Rattle.sc_search.specs.Texts.{KeepsOnce, StandOnce}
 
@@ -30,3 +34,10 @@ keeps text copy old new is none same once =
 
 pub keeps_both : (old mid new : List (List ℕ)) → KeepsOnce old mid → KeepsOnce mid new → KeepsOnce old new
 keeps_both old mid new h k once = k (h once)
+
+-- a text that is at no place is not there
+pub absent : (texts : List (List ℕ)) (text : List ℕ) (n : ℕ) → length texts ≤ n → ((k : ℕ) (t : List ℕ) → k < n → slice_get texts k ≡ Some t → t ≡ text → ⊥) → Contains texts text → ⊥
+absent texts text n le h (k, lt, same) = h k text (omega (arith, le, lt)) (slice_get-get_or texts k text lt ∙ ap (λ t. Some t) same) refl
+
+pub same_when : (a b : List ℕ) → pointwise nat_eq a b ≡ false → a ≡ b → ⊥
+same_when a b no same = let yes : pointwise nat_eq a b ≡ true = subst (λ (b : List ℕ). pointwise nat_eq a b ≡ true) same (text_same a) in cc

@@ -1,12 +1,13 @@
 //! Facts as equalities of terms and differences of numbers.
 
 ghost use Rattle.std.specs.Prelude.{◌≡◌, ◌++◌, None, replicate, IfOk, IfSome, OnOk};
-ghost use Rattle.std.specs.Prelude.{pos, ◌-ℤ◌};
-ghost use Rattle.sc_search.specs.Encoding.{AddsAtoms, AreAtomsFor, IsAtomOf, IsBelowOf, IsSameOf};
-ghost use Rattle.sc_search.specs.Encoding.{difference};
+ghost use Rattle.std.specs.Prelude.{pos, ◌+◌, ◌-ℤ◌};
+ghost use Rattle.sc_search.specs.Encoding.{AddsAtoms, AreAtomsFor, IsAtomOf, IsBelowAtom, IsBelowOf};
+ghost use Rattle.sc_search.specs.Encoding.{IsSameAtom, IsSameOf, difference};
 
 use crate::sides::{Reader, Side, side_of};
 use sc_clauses::FactNode;
+use sc_instances::Value;
 use sc_order::Diff;
 use sc_theory::{EqualityLit, PairLit};
 use std::alloc::{AllocError, Global};
@@ -68,6 +69,28 @@ fn below(x: u32, o: i64, y: u32, q: i64) -> Atom
     ))
 }
 
+/// The literals of an equality, if it has some.
+fn atom_of_same(reader: Reader<'_>, v: Value, u: Value) -> Result<Atom, AllocError>
+    ensures { IfOk result (λ atom. IfSome atom (IsSameAtom reader.entry.signature.now
+        reader.entry.arena.now reader.entry.terms.now reader.entry.words.now
+        reader.entry.texts.now v u)) }
+{
+    let left = side_of(reader, v)?;
+    let right = side_of(reader, u)?;
+    same_atom(left, right)
+}
+
+/// The literals of a comparison, if it has some.
+fn atom_of_below(reader: Reader<'_>, v: Value, u: Value) -> Result<Atom, AllocError>
+    ensures { IfOk result (λ atom. IfSome atom (IsBelowAtom reader.entry.signature.now
+        reader.entry.arena.now reader.entry.terms.now reader.entry.words.now
+        reader.entry.texts.now v u)) }
+{
+    let left = side_of(reader, v)?;
+    let right = side_of(reader, u)?;
+    below_atom(left, right)
+}
+
 /// The literals of a fact, if it has some.
 fn atom_of(reader: Reader<'_>, fact: FactNode) -> Result<Atom, AllocError>
     ensures { IfOk result (λ atom. IfSome atom (IsAtomOf reader.entry.signature.now
@@ -75,16 +98,8 @@ fn atom_of(reader: Reader<'_>, fact: FactNode) -> Result<Atom, AllocError>
         reader.entry.texts.now fact)) }
 {
     match fact {
-        FactNode::Same(v, u) => {
-            let left = side_of(reader, v)?;
-            let right = side_of(reader, u)?;
-            same_atom(left, right)
-        }
-        FactNode::Below(v, u) => {
-            let left = side_of(reader, v)?;
-            let right = side_of(reader, u)?;
-            below_atom(left, right)
-        }
+        FactNode::Same(v, u) => atom_of_same(reader, v, u),
+        FactNode::Below(v, u) => atom_of_below(reader, v, u),
         FactNode::There(_) | FactNode::Raised(_) | FactNode::Related(_) | FactNode::Empty(_) => {
             Ok(None)
         }
@@ -109,13 +124,29 @@ pub(crate) fn push_atoms(
 }
 
 /// Puts so many variables without literals at the end.
-pub(crate) fn push_plain(count: u32, atoms: &mut Vec<Atom>) -> Result<(), AllocError>
+pub(crate) fn push_plain(
+    alloc: Global,
+    count: u32,
+    atoms: &mut Vec<Atom>,
+) -> Result<(), AllocError>
     ensures { OnOk result (atoms.new.items ≡ atoms.old.items ++ replicate count None) }
 {
-    for _ in 0..count {
-        atoms.push(None)?;
-    }
+    let mut plain: Vec<Atom> = vec![in alloc; None; count as usize]?;
+    atoms.append(&mut plain)?;
     Ok(())
+}
+
+/// How many variables come behind the first ones and so many others.
+fn gap_of(first: u32, count: usize, vars: u32) -> Result<u32, AllocError>
+    ensures { IfOk result (λ gap. first + count + gap ≡ vars) }
+{
+    let Some(behind) = (first as usize).checked_add(count) else {
+        return Err(AllocError);
+    };
+    if behind > vars as usize {
+        return Err(AllocError);
+    }
+    Ok(vars - behind as u32)
 }
 
 /// The literals of all variables: those below the first have none, then come those of facts, then
@@ -133,17 +164,11 @@ pub(crate) fn atoms_for(
         reader.entry.texts.now first vars facts.now halves.now atoms.items) }
 {
     let behind = (first as usize).checked_add(facts.len());
-    let gap = match behind {
-        Some(behind) => (vars as usize).checked_sub(behind),
-        None => None,
-    };
-    let Some(gap) = gap else {
-        return Err(AllocError);
-    };
+    let gap = gap_of(first, facts.len(), vars)?;
     let mut atoms = Vec::new(alloc);
-    push_plain(first, &mut atoms)?;
+    push_plain(alloc, first, &mut atoms)?;
     push_atoms(reader, facts, &mut atoms)?;
-    push_plain(gap as u32, &mut atoms)?;
+    push_plain(alloc, gap, &mut atoms)?;
     push_atoms(reader, halves, &mut atoms)?;
     Ok(atoms)
 }

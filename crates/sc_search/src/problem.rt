@@ -126,15 +126,26 @@ fn is_taken(terms: u32, numbers: u32, literal: Lit) -> bool
     }
 }
 
+/// Whether the literals of a variable speak of terms and numbers that there are.
+fn is_taken_atom(terms: u32, numbers: u32, atom: &Atom) -> bool
+    ensures { result ≡ true → IsTaken (takes_own (takes_literal terms) (is_literal numbers))
+        atom.now }
+{
+    match atom {
+        Some((when_true, when_false)) => {
+            is_taken(terms, numbers, *when_true) && is_taken(terms, numbers, *when_false)
+        }
+        None => true,
+    }
+}
+
 /// Whether literals speak of terms and numbers that there are.
 pub(crate) fn are_taken(terms: u32, numbers: u32, atoms: &[Atom]) -> bool
     ensures { result ≡ true → AreTaken terms numbers atoms.now }
 {
     for atom in atoms {
-        if let Some((when_true, when_false)) = atom {
-            if !is_taken(terms, numbers, *when_true) || !is_taken(terms, numbers, *when_false) {
-                return false;
-            }
+        if !is_taken_atom(terms, numbers, atom) {
+            return false;
         }
     }
     true

@@ -1,6 +1,6 @@
 //! The search.
 
-ghost use Rattle.std.specs.Prelude.{◌≡◌, ◌++◌, Bool, List, [], Contains, IfOk, IfSome, None, map};
+ghost use Rattle.std.specs.Prelude.{◌≡◌, ◌++◌, Bool, List, [], Contains, IfOk, IfSome, None, length, map};
 ghost use Rattle.sc_clauses.specs.Facts.{clauses_at};
 ghost use Rattle.sc_formula.specs.NormalForm.{IsNormal};
 ghost use Rattle.sc_formula.specs.Nodes.{IsFormula, formula_of};
@@ -126,6 +126,13 @@ fn count_of(spoken: &Spoken, ground: &GroundClauses) -> Result<u32, AllocError> 
     Ok(count as u32)
 }
 
+/// How many inputs there are, which are the first variables.
+fn count_of_inputs(spoken: &Spoken) -> Result<u32, AllocError>
+    ensures { IfOk result (λ count. count ≡ length spoken.now.made.inputs) }
+{
+    Ok(spoken.made.inputs.len() as u32)
+}
+
 /// What is found for instances with their vocabulary, by all clauses.
 fn found_for(
     alloc: Global,
@@ -148,6 +155,7 @@ fn found_for(
     let _nodes = arena.len();
     let _terms = spoken.made.terms.len();
     let vars = count_of(spoken, clauses)?;
+    let first = count_of_inputs(spoken)?;
     let texts = texts_of(alloc, arena, clauses.facts.as_slice())?;
     see_texts(texts.as_slice());
     let reader = Reader {
@@ -159,7 +167,7 @@ fn found_for(
     };
     let ground = Ground {
         facts: clauses.facts.as_slice(),
-        first: spoken.made.inputs.len() as u32,
+        first,
         vars,
         clauses: clauses.clauses.as_slice(),
         gates: clauses.gates.as_slice(),

@@ -1,6 +1,6 @@
 //! What values are to the decision procedures.
 
-ghost use Rattle.std.specs.Prelude.{◌≡◌, ◌+◌, ◌++◌, ℕ, Some, true, Contains, length, slice_get};
+ghost use Rattle.std.specs.Prelude.{◌≡◌, ◌+◌, ◌++◌, ℕ, Some, true, false, Contains, length, slice_get};
 ghost use Rattle.std.specs.Prelude.{IfOk, IfSome};
 ghost use Rattle.std.specs.Option.{IfNone};
 ghost use Rattle.sc_term_arena.specs.Nodes.{IsOne, term_of};
@@ -38,11 +38,26 @@ pub(crate) struct Reader<'a> {
 }
 
 
+/// Whether a number is in a list.
+fn is_in(ids: &Vec<u32>, id: u32) -> bool
+    ensures { result ≡ true → Contains ids.now.items id }
+{
+    ids.contains(&id)
+}
+
 /// Whether a number is that of a term of which a table tells.
 fn is_listed(words: &Words, id: u32) -> bool
     ensures { result ≡ true → Contains (words.now.named.items ++ words.now.others.items) id }
 {
-    words.named.contains(&id) || words.others.contains(&id)
+    is_in(&words.named, id) || is_in(&words.others, id)
+}
+
+/// Whether two texts are one.
+fn is_same_text(a: &Txt, b: &Txt) -> bool
+    ensures yes { result ≡ true → a.now ≡ b.now }
+    ensures no { result ≡ false → a.now ≡ b.now → ⊥ }
+{
+    a == b
 }
 
 /// The place of a text.
@@ -51,7 +66,7 @@ pub(crate) fn place_of(texts: &[Txt], text: &Txt) -> Option<usize>
     ensures absent { IfNone result (Contains texts.now text.now → ⊥) }
 {
     for place in 0..texts.len() {
-        if texts[place] == *text {
+        if is_same_text(&texts[place], text) {
             return Some(place);
         }
     }

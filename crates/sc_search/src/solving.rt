@@ -13,7 +13,9 @@ use crate::sides::Reader;
 use sc_clauses::FactNode;
 use sc_gates::Literal;
 use sc_mixed::{Mixture, search_mixed};
+use sc_ast::Txt;
 use sc_solver::PLit;
+use sc_term_arena::TermArena;
 use std::alloc::{AllocError, Global};
 
 /// The numbers from one on, so many.
@@ -30,15 +32,42 @@ fn numbers_from(alloc: Global, first: u32, count: u32) -> Result<Vec<u32>, Alloc
     Ok(numbers)
 }
 
-/// A number that is below most.
-fn few(number: usize) -> Result<u32, AllocError>
-    ensures is { IfOk result (λ few. few ≡ number) }
+/// How many terms there are, if these are few.
+fn few_terms(terms: &TermArena) -> Result<u32, AllocError>
+    ensures is { IfOk result (λ few. few ≡ length terms.now) }
     ensures less { IfOk result (λ few. few < 1999999999) }
 {
-    if number >= 1_999_999_999 {
+    let count = terms.len();
+    if count >= 1_999_999_999 {
         return Err(AllocError);
     }
-    Ok(number as u32)
+    Ok(count as u32)
+}
+
+/// How many texts there are, if these are few.
+fn few_texts(texts: &[Txt]) -> Result<u32, AllocError>
+    ensures is { IfOk result (λ few. few ≡ length texts.now) }
+    ensures less { IfOk result (λ few. few < 1999999999) }
+{
+    let count = texts.len();
+    if count >= 1_999_999_999 {
+        return Err(AllocError);
+    }
+    Ok(count as u32)
+}
+
+/// How many variables there are with those of halves, if these are few.
+fn few_variables(vars: u32, halves: &[FactNode]) -> Result<u32, AllocError>
+    ensures is { IfOk result (λ few. few ≡ vars + length halves.now) }
+    ensures less { IfOk result (λ few. few < 1999999999) }
+{
+    let Some(count) = (vars as usize).checked_add(halves.len()) else {
+        return Err(AllocError);
+    };
+    if count >= 1_999_999_999 {
+        return Err(AllocError);
+    }
+    Ok(count as u32)
 }
 
 /// Searches for an assignment that meets clauses whose equalities and differences have a model, where
@@ -124,13 +153,9 @@ fn solve_with(
     ensures some { IfOk result (λ found. IfSome found (AreSolved (map (λ c. c.items)
         ground.entry.clauses.now ++ map (λ c. c.items) ground.entry.gates.now))) }
 {
-    let terms = few(reader.terms.len())?;
-    let texts = few(reader.texts.len())?;
-    let more = few(halves.facts.len())?;
-    let Some(total) = ground.vars.checked_add(more) else {
-        return Err(AllocError);
-    };
-    let total = few(total as usize)?;
+    let terms = few_terms(reader.terms)?;
+    let texts = few_texts(reader.texts)?;
+    let total = few_variables(ground.vars, halves.facts.as_slice())?;
     if !are_below(ground.vars, ground.clauses) || !are_below(ground.vars, ground.gates) {
         return Err(AllocError);
     }

@@ -56,6 +56,21 @@ fn add_value(
     }
 }
 
+/// Puts the texts of two values at the end.
+fn add_values(
+    alloc: Global,
+    arena: &Arena,
+    left: Value,
+    right: Value,
+    texts: &mut Vec<Txt>,
+) -> Result<(), AllocError>
+    ensures { OnOk result (KeepsOnce texts.old.items texts.new.items) }
+{
+    add_value(alloc, arena, left, texts)?;
+    add_value(alloc, arena, right, texts)?;
+    Ok(())
+}
+
 /// Puts the texts of a fact at the end.
 fn add_fact(
     alloc: Global,
@@ -66,10 +81,7 @@ fn add_fact(
     ensures { OnOk result (KeepsOnce texts.old.items texts.new.items) }
 {
     match fact {
-        FactNode::Same(v, u) => {
-            add_value(alloc, arena, v, texts)?;
-            add_value(alloc, arena, u, texts)
-        }
+        FactNode::Same(v, u) => add_values(alloc, arena, v, u, texts),
         FactNode::There(_)
         | FactNode::Below(..)
         | FactNode::Raised(_)

@@ -1,6 +1,20 @@
-use Rattle.std.proofs.Common.{Option, None, Some, IfSome, List, ℕ}
 use Rattle.sc_search.proofs.Glue.{nowhere, found_table}
+use Rattle.sc_search.proofs.Solved.{ok_too, some_too}
 use Rattle.sc_search.proofs.search.found_for.Goals as goal
 
-pub returns : goal.returns
-returns c = ?
+pub returns-clause-none : goal.returns-clause-none
+returns-clause-none c =
+    ok_too c.found_by_clauses.result _ _
+    (λ found h none f ts closed over normal is gr.
+        nowhere c.args.signature.now c.args.arena.now f ts closed c.args.spoken.now c.args.clauses.now over normal is gr c.len-gates.ensures.placed c.in_ok-first.first
+        c.in_ok-first.ensures _ c.see_texts.ensures (h none))
+    c.found_by_clauses.ensures.none
+
+pub returns-clause-some : goal.returns-clause-some
+returns-clause-some c =
+    ok_too c.found_by_clauses.result _ _
+    (λ found h. some_too found _ _
+        (λ x k f ts closed over normal is gr.
+            found_table c.args.signature.now c.args.arena.now f ts closed c.args.spoken.now c.args.clauses.now over normal is gr c.len-gates.ensures.placed c.in_ok-first.first
+            c.in_ok-first.ensures k.0 x c.len-nodes.ensures.placed c.len-terms.ensures.placed c.len-terms.ensures.once k.1.0 k.1.1) h)
+    c.found_by_clauses.ensures.some
