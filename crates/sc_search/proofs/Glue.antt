@@ -25,6 +25,7 @@ use Rattle.sc_grounding.proofs.Grounded.{grounded, met_tables, met_read}
 use Rattle.sc_vocabulary.specs.Spoken.{IsSpoken}
 use Rattle.sc_vocabulary.specs.Words.{vocabulary_at, IsWords}
 use Rattle.sc_vocabulary.specs.declared.spoken.Spoken.{Spoken}
+use Rattle.sc_vocabulary.specs.declared.words.PairNode.{PairNode}
 use Rattle.sc_vocabulary.specs.declared.words.Words.{Words}
 use Rattle.sc_clauses.specs.Facts.{fact_at, clause_at, clauses_at}
 use Rattle.sc_clauses.specs.declared.facts.FactLiteral.{FactLiteral}
@@ -105,6 +106,42 @@ module _ (g : Signature) (nodes : List Node) (f : Formula) (ts : List GroundTerm
         consistent = consistent_from g f ts v a is.vocabulary typed met;
         reads = read;
       }
+
+  -- and so where the lists are these
+  pub nowhere_as : (texts : List (List ℕ)) → AreTexts texts → (fs : List FactNode) (cs : List (List Literal)) → fs ≡ ground.facts.items → cs ≡ all
+      → IsNowhere g nodes s.made.terms s.words texts first fs cs → IsSatisfiableOver g f (Contains ts) → ⊥
+  nowhere_as texts are fs cs e k none =
+      nowhere texts are
+      (subst (λ (fs : List FactNode). IsNowhere g nodes s.made.terms s.words texts first fs all) e
+      (subst (λ (cs : List (List Literal)). IsNowhere g nodes s.made.terms s.words texts first fs cs) k none))
+
+  pub found_as : (m : Mixture) (found : Found) → AreNodesPlaced nodes → ArePlaced s.made.terms → AreOnce s.made.terms → (fs : List FactNode) (cs : List (List Literal)) → fs ≡ ground.facts.items → cs ≡ all
+      → AreSolved cs m → HasColumns g nodes s.made.terms s.words fs first m.values.items found → HasTable g f ts s found
+  found_as m found formed placed once fs cs e k solved has =
+      found_table m found formed placed once (subst (λ (cs : List (List Literal)). AreSolved cs m) k solved)
+      (subst (λ (fs : List FactNode). HasColumns g nodes s.made.terms s.words fs first m.values.items found) e has)
+
+-- two lists together
+pub at_items : {V X : Type 0} (items : V → List X) (cs ds gs hs : List V) → cs ≡ ds → gs ≡ hs → map items cs ++ map items gs ≡ map items ds ++ map items hs
+at_items items cs ds gs hs e k = ap (λ xs. map items xs ++ map items gs) e ∙ ap (λ ys. map items ds ++ map items ys) k
+
+pub clauses_as : {V : Type 0} (nodes : List Node) (terms : List TermNode) (items : V → List FactLiteral) (vs us : List V) → vs ≡ us → clauses_at nodes terms (map items vs) ≡ clauses_at nodes terms (map items us)
+clauses_as nodes terms items vs us e = ap (λ xs. clauses_at nodes terms (map items xs)) e
+
+-- the columns of what was found, where the lists are these
+pub columns_as : (g : Signature) (nodes : List Node) (terms : List TermNode) (w : Words) (facts : List FactNode) (first : ℕ) (values : List Bool) (found : Found) (c : Columns)
+    (pairs : List PairNode) (vs : List Bool) (named others : List ℕ) → pairs ≡ w.pairs.items → vs ≡ values → named ≡ w.named.items → others ≡ w.others.items
+    → ((k : ℕ) (p : FactNode) → slice_get facts k ≡ Some p → IsSo nodes terms pairs c p (unwrap_or (slice_get vs (first + k)) false)) → AreTyped g terms c named → AreTyped g terms c others
+    → AreFound terms pairs c found → HasColumns g nodes terms w facts first values found
+columns_as g nodes terms w facts first values found c pairs vs named others p q r s so typed typed' is = record {
+  columns = c;
+  so = λ k fact e.
+      subst (λ (ps : List PairNode). IsSo nodes terms ps c fact (unwrap_or (slice_get values (first + k)) false)) p
+      (subst (λ (vs : List Bool). IsSo nodes terms pairs c fact (unwrap_or (slice_get vs (first + k)) false)) q (so k fact e));
+  named_typed = subst (λ (ids : List ℕ). AreTyped g terms c ids) r typed;
+  others_typed = subst (λ (ids : List ℕ). AreTyped g terms c ids) s typed';
+  is_found = subst (λ (ps : List PairNode). AreFound terms ps c found) p is;
+}
 
 tabled_same : (t : Tabled) (x : List TermNode) (y : Words) (z : Found) → t.terms ≡ x → t.words ≡ y → t.found ≡ z → record { terms = x; words = y; found = z } ≡ t
 tabled_same t x y z p q r =

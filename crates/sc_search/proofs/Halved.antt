@@ -39,6 +39,12 @@ module _ (g : Signature) (nodes : List Node) (terms : List TermNode) (w : Words)
   pub none_linked : {V : Type 0} (first vars : ℕ) (facts halves : List FactNode) (vs : List V) (items : V → List PLit) → vs ≡ [] → AreLinked g nodes terms w texts first vars facts halves (map items vs)
   none_linked first vars facts halves vs items e = record { linked = λ c there. Contains-none c (subst (λ (cs : List (List PLit)). Contains cs c) (ap (map items) e) there) }
 
+  pub linked_as : {V : Type 0} (first vars : ℕ) (facts hs ks : List FactNode) (vs us : List V) (items : V → List PLit) → ks ≡ hs → us ≡ vs
+      → AreLinked g nodes terms w texts first vars facts hs (map items vs) → AreLinked g nodes terms w texts first vars facts ks (map items us)
+  linked_as {V} first vars facts hs ks vs us items e k h =
+      subst (λ (xs : List FactNode). AreLinked g nodes terms w texts first vars facts xs (map items us)) (sym e)
+      (subst (λ (ys : List V). AreLinked g nodes terms w texts first vars facts hs (map items ys)) (sym k) h)
+
   -- one more fact
   pub halves_more : (first vars k x : ℕ) (facts : List FactNode) (fact : FactNode) (old new : Halves) → slice_get facts k ≡ Some fact → x ≡ first + k
       → AreLinked g nodes terms w texts first vars facts old.facts.items (map (λ c. c.items) old.links.items) → GoesOnHalving g nodes terms w texts fact x vars old new
@@ -118,12 +124,13 @@ module _ (g : Signature) (nodes : List Node) (terms : List TermNode) (w : Words)
       }
 
   -- the literals of all variables
-  pub atoms_whole : (first vars gap : ℕ) (facts halves : List FactNode) (a1 a2 a3 a4 : List Atom) → a1 ≡ replicate first None → AddsAtoms g nodes terms w texts facts a1 a2 → a3 ≡ a2 ++ replicate gap None
+  pub atoms_whole : (first vars gap : ℕ) (facts halves : List FactNode) (a0 a1 a2 a3 a4 : List Atom) → a0 ≡ [] → a1 ≡ a0 ++ replicate first None → AddsAtoms g nodes terms w texts facts a1 a2 → a3 ≡ a2 ++ replicate gap None
       → AddsAtoms g nodes terms w texts halves a3 a4 → first + length facts + gap ≡ vars → AreAtomsFor g nodes terms w texts first vars facts halves a4
-  atoms_whole first vars gap facts halves a1 a2 a3 a4 p q r s t =
+  atoms_whole first vars gap facts halves a0 a1 a2 a3 a4 o p q r s t =
       let front : List Atom = replicate first None in
       let back : List Atom = replicate gap None in
-      let second : a2 ≡ front ++ q.more = q.whole ∙ ap (λ ls. ls ++ q.more) p in
+      let begun : a1 ≡ front = p ∙ ap (λ ls. ls ++ front) o in
+      let second : a2 ≡ front ++ q.more = q.whole ∙ ap (λ ls. ls ++ q.more) begun in
       let third : a3 ≡ front ++ (q.more ++ back) = r ∙ (ap (λ ls. ls ++ back) second ∙ append_assoc front q.more back) in
       record {
         own = q.more;

@@ -110,3 +110,6 @@ solved_by n left right links all m s h = record {
 pub each_below : {V : Type 0} (items : V → List Literal) (bound : ℕ) (cs : List V) → All (λ v. AreBelow bound (items v)) cs → (c : List Literal) → Contains (map items cs) c → AreBelow bound c
 each_below items bound cs h c there =
     let (v, listed, same) = in_map items cs c there in subst (λ (c : List Literal). AreBelow bound c) same (All-Contains (λ v. AreBelow bound (items v)) cs v h listed)
+
+pub items_as : {V X : Type 0} (items : V → List X) (vs us : List V) → vs ≡ us → map items vs ≡ map items us
+items_as items vs us e = ap (map items) e

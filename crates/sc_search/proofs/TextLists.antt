@@ -40,4 +40,4 @@ pub absent : (texts : List (List ℕ)) (text : List ℕ) (n : ℕ) → length te
 absent texts text n le h (k, lt, same) = h k text (omega (arith, le, lt)) (slice_get-get_or texts k text lt ∙ ap (λ t. Some t) same) refl
 
 pub same_when : (a b : List ℕ) → pointwise nat_eq a b ≡ false → a ≡ b → ⊥
-same_when a b no same = let yes : pointwise nat_eq a b ≡ true = subst (λ (b : List ℕ). pointwise nat_eq a b ≡ true) same (text_same a) in cc
+same_when a b differ same = let yes : pointwise nat_eq a b ≡ true = subst (λ (b : List ℕ). pointwise nat_eq a b ≡ true) same (text_same a) in cc

@@ -156,21 +156,25 @@ fn found_for(
     let _terms = spoken.made.terms.len();
     let vars = count_of(spoken, clauses)?;
     let first = count_of_inputs(spoken)?;
-    let texts = texts_of(alloc, arena, clauses.facts.as_slice())?;
-    see_texts(texts.as_slice());
+    let facts = clauses.facts.as_slice();
+    let plain = clauses.clauses.as_slice();
+    let gates = clauses.gates.as_slice();
+    let texts = texts_of(alloc, arena, facts)?;
+    let own = texts.as_slice();
+    see_texts(own);
     let reader = Reader {
         signature,
         arena,
         terms: &spoken.made.terms,
         words: &spoken.words,
-        texts: texts.as_slice(),
+        texts: own,
     };
     let ground = Ground {
-        facts: clauses.facts.as_slice(),
+        facts,
         first,
         vars,
-        clauses: clauses.clauses.as_slice(),
-        gates: clauses.gates.as_slice(),
+        clauses: plain,
+        gates,
     };
     found_by_clauses(alloc, reader, ground)
 }

@@ -7,7 +7,7 @@ ghost use Rattle.sc_search.specs.Problem.{AreSolved, IsNowhere, IsPlainlyMixed, 
 ghost use Rattle.sc_search.specs.Texts.{StandOnce};
 
 use crate::atoms::{Atom, atoms_for};
-use crate::halves::{Halves, halves_of};
+use crate::halves::halves_of;
 use crate::problem::{are_below, are_taken, are_within, push_clauses, push_copies};
 use crate::sides::Reader;
 use sc_clauses::FactNode;
@@ -142,31 +142,32 @@ fn solve_with(
     alloc: Global,
     reader: Reader<'_>,
     ground: Ground<'_>,
-    halves: &Halves,
+    halves: &[FactNode],
+    links: &[Vec<PLit>],
 ) -> Result<Option<Mixture>, AllocError>
     ensures none { IfOk result (λ found. found ≡ None → (atoms : List AnyAtom) × IsPlainlyMixed
         reader.entry.signature.now reader.entry.arena.now reader.entry.terms.now
         reader.entry.words.now reader.entry.texts.now ground.entry.first ground.entry.vars
-        ground.entry.facts.now halves.now.facts.items (map (λ c. c.items) ground.entry.clauses.now
-        ++ map (λ c. c.items) ground.entry.gates.now) (map (λ c. c.items) halves.now.links.items)
+        ground.entry.facts.now halves.now (map (λ c. c.items) ground.entry.clauses.now
+        ++ map (λ c. c.items) ground.entry.gates.now) (map (λ c. c.items) links.now)
         atoms) }
     ensures some { IfOk result (λ found. IfSome found (AreSolved (map (λ c. c.items)
         ground.entry.clauses.now ++ map (λ c. c.items) ground.entry.gates.now))) }
 {
     let terms = few_terms(reader.terms)?;
     let texts = few_texts(reader.texts)?;
-    let total = few_variables(ground.vars, halves.facts.as_slice())?;
+    let total = few_variables(ground.vars, halves)?;
     if !are_below(ground.vars, ground.clauses) || !are_below(ground.vars, ground.gates) {
         return Err(AllocError);
     }
-    let clauses = clauses_for(alloc, ground.clauses, ground.gates, halves.links.as_slice())?;
+    let clauses = clauses_for(alloc, ground.clauses, ground.gates, links)?;
     let atoms = atoms_for(
         alloc,
         reader,
         ground.first,
         ground.vars,
         ground.facts,
-        halves.facts.as_slice(),
+        halves,
     )?;
     if atoms.len() != total as usize {
         return Err(AllocError);
@@ -190,5 +191,7 @@ pub(crate) fn solve(
         ground.entry.clauses.now ++ map (λ c. c.items) ground.entry.gates.now))) }
 {
     let halves = halves_of(alloc, reader, ground.first, ground.vars, ground.facts)?;
-    solve_with(alloc, reader, ground, &halves)
+    let facts = halves.facts.as_slice();
+    let links = halves.links.as_slice();
+    solve_with(alloc, reader, ground, facts, links)
 }

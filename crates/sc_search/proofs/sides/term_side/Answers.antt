@@ -19,6 +19,6 @@ returns-in-Some-Str c =
     inl (record {
       value = refl;
       told_there = told_by c.args.reader.signature.now c.args.reader.arena.now c.args.reader.terms.now c.args.reader.words.now c.args.reader.texts.now c.args.id c.in-Some-Str.ensures.one
-          (c.is_listed-listed.ensures c.if-listed.true);
+          (c.is_listed-listed.ensures c.if-listed-2.true);
       ranged = let range = c.in-Some-Str.ensures.range in let is = c.in-Some-Str.field-0-is in cc;
     })

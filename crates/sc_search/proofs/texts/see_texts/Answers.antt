@@ -7,7 +7,7 @@ use Rattle.sc_search.proofs.texts.see_texts.Goals as goal
 pub loop-text-preserved : goal.loop-text-preserved
 loop-text-preserved c =
     so_more (λ k t. IsText t) c.args.texts.now c.loop-text.text-index c.loop-text.invariant
-    (λ t e. subst (λ (t : List ℕ). IsText t) (c.bytes.ensures.bytes ∙ item_at c.args.texts.now c.loop-text.text-index t _ e) c.bytes.ensures.text)
+    (λ t e. subst (λ (t : List ℕ). IsText t) (c.bytes-bytes.ensures.bytes ∙ (c.text-item.is ∙ item_at c.args.texts.now c.loop-text.text-index t c.text-item.result e)) c.bytes-bytes.ensures.text)
 
 pub returns : goal.returns
 returns c = so_within (λ k t. IsText t) c.args.texts.now c.loop-text.text-index (omega arith) c.loop-text.invariant
