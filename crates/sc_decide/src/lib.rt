@@ -12,6 +12,8 @@ mod deciding;
 mod picking;
 mod shallow_terms;
 mod stratified;
+#[cfg(test)]
+mod tests;
 mod trying;
 mod verdict;
 

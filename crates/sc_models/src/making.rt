@@ -16,9 +16,9 @@ use crate::found::Found;
 use crate::picks::picks;
 use crate::places::element_list;
 use crate::structure::structure_from;
-use sc_vocabulary::Words;
 use sc_formula::{Arena, Signature, Structure};
 use sc_term_arena::TermArena;
+use sc_vocabulary::Words;
 use sqlite_items::Items;
 use std::alloc::{AllocError, Global};
 

@@ -6,8 +6,8 @@ ghost use Rattle.std.specs.Option.{option_to_list};
 ghost use Rattle.sc_models.specs.Columns.{related_in, relation_at};
 
 use crate::found::Found;
-use sc_vocabulary::PairNode;
 use crate::places::element_or_first;
+use sc_vocabulary::PairNode;
 use sqlite_items::Items;
 use std::alloc::{AllocError, Global};
 

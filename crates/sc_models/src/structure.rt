@@ -8,9 +8,9 @@ use crate::places::{default_list, short, size_list};
 use crate::relations::relations;
 use crate::rows::rows;
 use crate::values::Source;
-use sc_vocabulary::Words;
 use sc_formula::{Signature, Structure};
 use sc_term_arena::TermArena;
+use sc_vocabulary::Words;
 use sqlite_items::Items;
 use std::alloc::{AllocError, Global};
 

@@ -174,7 +174,7 @@ module _ (g : Signature) (nodes : List Node) (terms : List TermNode) (w : Words)
   told_by id one there = record {
     one = one;
     is_told = elim (cases-append w.named.items w.others.items id there) [
-          | inl k ↦ Contains-append_left (map (term_of terms) w.named.items) (map (term_of terms) w.others.items) (term_of terms id) (to_map (term_of terms) w.named.items id k)
-          | inr k ↦ Contains-append_right (map (term_of terms) w.named.items) (map (term_of terms) w.others.items) (term_of terms id) (to_map (term_of terms) w.others.items id k)
-        ];
+      | inl k ↦ Contains-append_left (map (term_of terms) w.named.items) (map (term_of terms) w.others.items) (term_of terms id) (to_map (term_of terms) w.named.items id k)
+      | inr k ↦ Contains-append_right (map (term_of terms) w.named.items) (map (term_of terms) w.others.items) (term_of terms id) (to_map (term_of terms) w.others.items id k)
+    ];
   }

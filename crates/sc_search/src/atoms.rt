@@ -124,11 +124,7 @@ pub(crate) fn push_atoms(
 }
 
 /// Puts so many variables without literals at the end.
-pub(crate) fn push_plain(
-    alloc: Global,
-    count: u32,
-    atoms: &mut Vec<Atom>,
-) -> Result<(), AllocError>
+pub(crate) fn push_plain(alloc: Global, count: u32, atoms: &mut Vec<Atom>) -> Result<(), AllocError>
     ensures { OnOk result (atoms.new.items ≡ atoms.old.items ++ replicate count None) }
 {
     let mut plain: Vec<Atom> = vec![in alloc; None; count as usize]?;

@@ -32,11 +32,7 @@ fn is_number(reader: Reader<'_>, value: Value) -> Result<bool, AllocError>
 }
 
 /// Puts a clause at the end.
-fn push_link(
-    alloc: Global,
-    literals: &[PLit],
-    links: &mut Vec<Vec<PLit>>,
-) -> Result<(), AllocError>
+fn push_link(alloc: Global, literals: &[PLit], links: &mut Vec<Vec<PLit>>) -> Result<(), AllocError>
     ensures { OnOk result (map (λ c. c.items) links.new.items
         ≡ map (λ c. c.items) links.old.items ++ literals.now ∷ []) }
 {
@@ -46,12 +42,7 @@ fn push_link(
 }
 
 /// Puts the clauses that link an equality to its halves at the end.
-fn push_links(
-    alloc: Global,
-    x: u32,
-    e: u32,
-    links: &mut Vec<Vec<PLit>>,
-) -> Result<(), AllocError>
+fn push_links(alloc: Global, x: u32, e: u32, links: &mut Vec<Vec<PLit>>) -> Result<(), AllocError>
     ensures { OnOk result (map (λ c. c.items) links.new.items ≡ map (λ c. c.items) links.old.items
         ++ link_clauses x e) }
 {

@@ -119,7 +119,8 @@ fn is_taken(terms: u32, numbers: u32, literal: Lit) -> bool
         literal) }
 {
     match literal {
-        PairLit::Left(EqualityLit::Same(a, b) | EqualityLit::Differ(a, b)) => a < terms && b < terms,
+        PairLit::Left(EqualityLit::Same(a, b) | EqualityLit::Differ(a, b)) => a < terms
+            && b < terms,
         PairLit::Right(Diff { x, y, c }) => {
             x < numbers && y < numbers && -MOST_DIFFERENCE <= c && c <= MOST_DIFFERENCE
         }

@@ -73,7 +73,12 @@ fn found_from(
         pairs,
         columns: &columns,
     };
-    check_facts(source, ground.facts, ground.first, mixture.values.as_slice())?;
+    check_facts(
+        source,
+        ground.facts,
+        ground.first,
+        mixture.values.as_slice(),
+    )?;
     check_ranges(
         reader.signature,
         reader.terms,

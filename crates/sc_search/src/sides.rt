@@ -37,7 +37,6 @@ pub(crate) struct Reader<'a> {
     pub(crate) texts: &'a [Txt],
 }
 
-
 /// Whether a number is in a list.
 fn is_in(ids: &Vec<u32>, id: u32) -> bool
     ensures { result ≡ true → Contains ids.now.items id }

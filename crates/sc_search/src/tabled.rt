@@ -1,8 +1,8 @@
 //! What a search gives.
 
 use sc_models::Found;
-use sc_vocabulary::Words;
 use sc_term_arena::TermArena;
+use sc_vocabulary::Words;
 
 /// A table by which a formula is read: what was found of numbered terms.
 #[derive(Drop)]

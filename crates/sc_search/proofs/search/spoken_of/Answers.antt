@@ -9,5 +9,5 @@ pub returns-clause-spoken : goal.returns-clause-spoken
 returns-clause-spoken c =
     ok_too c.vocabulary_of.result _ _
     (λ spoken h over formed.
-        h (formula_of c.args.arena.now c.args.id) (terms_in c.args.terms) over formed (ap (map variable_at) c.as_slice.ensures.value ∙ c.in_ok-variables.ensures c.args.signature.now) c.in_ok-made.ensures)
+    h (formula_of c.args.arena.now c.args.id) (terms_in c.args.terms) over formed (ap (map variable_at) c.as_slice.ensures.value ∙ c.in_ok-variables.ensures c.args.signature.now) c.in_ok-made.ensures)
     c.vocabulary_of.ensures.spoken
