@@ -1,0 +1,11 @@
+use Rattle.std.proofs.Common.{◌∙◌, sym, ap, ◌∷◌, [], ◌++◌, false}
+use Rattle.std.specs.Prelude.{position}
+use Rattle.std.proofs.lemmas.List.{map_more}
+use Rattle.sc_columns.specs.Columns.{at_or, is_same_pair}
+use Rattle.sc_columns.proofs.Steps.{mapped_more}
+use Rattle.sc_columns.proofs.finding.related_by.Goals as goal
+
+pub loop-pair-preserved : goal.loop-pair-preserved
+loop-pair-preserved c =
+    mapped_more (λ p. at_or c.args.columns.now.related (position (is_same_pair p) c.args.pairs.now) false) c.args.pairs.now c.loop-pair.pair-index _ _ _ _ c.loop-pair-test.true c.loop-pair.invariant
+    c.is_related.ensures c.in_ok-push.ensures.ok

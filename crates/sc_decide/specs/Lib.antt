@@ -1,0 +1,4 @@
+pub mod Leading
+pub mod Public
+pub mod Tried
+pub mod Verdicts

@@ -1,0 +1,57 @@
+//! The verdict on a formula.
+
+ghost use Rattle.std.specs.Prelude.{◌≡◌, ◌*◌, ◌≤◌, [], length, IfOk};
+ghost use Rattle.sc_formula.specs.Added.{Extends};
+ghost use Rattle.sc_formula.specs.NormalForm.{IsNormal};
+ghost use Rattle.sc_formula.specs.Nodes.{IsFormula, formula_of};
+ghost use Rattle.sc_formula.specs.Over.{IsOver};
+ghost use Rattle.sc_formula.specs.Trees.{Formula};
+ghost use Rattle.sc_formula.specs.Truth.{IsEquallyTrue};
+ghost use Rattle.sc_decide.specs.Verdicts.{IsVerdict, IsVerdictOn};
+
+use crate::shallow_terms::decide_shallow;
+use crate::stratified::decide_stratified;
+use crate::verdict::Verdict;
+use sc_formula::{Arena, Signature, nnf};
+use sc_strata::{Strata, strata};
+use std::alloc::{AllocError, Global};
+
+/// The verdict on a formula in negation normal form.
+fn decide_form(
+    alloc: Global,
+    arena: &Arena,
+    id: u32,
+    signature: &Signature,
+) -> Result<Verdict, AllocError>
+    requires formula { IsFormula arena.now id }
+    requires over { IsOver signature.now [] (formula_of arena.now id) }
+    requires normal { IsNormal (formula_of arena.now id) }
+    ensures { IfOk result (λ verdict. (f : Formula) → IsEquallyTrue (formula_of arena.now id) f →
+        IsVerdictOn signature.now f (formula_of arena.now id) verdict) }
+{
+    match strata(alloc, arena, id, signature)? {
+        Strata::Order(_) => decide_stratified(alloc, arena, id, signature),
+        Strata::Cycle(cycle) => decide_shallow(alloc, arena, id, signature, cycle),
+    }
+}
+
+/// Decides a closed formula over all finite structures.
+///
+/// On a stratified formula within the limits the verdict is Safe or Found. On one that is not
+/// stratified a structure is sought over its shallow terms: where there is none the verdict is Safe,
+/// and else Found or Unknown, as the structure satisfies the formula or does not.
+pub fn decide(
+    alloc: Global,
+    arena: &mut Arena,
+    id: u32,
+    signature: &Signature,
+) -> Result<Verdict, AllocError>
+    requires formula { IsFormula arena.old id }
+    requires over { IsOver signature.now [] (formula_of arena.old id) }
+    requires room { 3 * length arena.old ≤ 4000000 }
+    ensures verdict { IfOk result (IsVerdict signature.now (formula_of arena.old id)) }
+    ensures kept { Extends arena.old arena.new }
+{
+    let form = nnf(arena, id)?;
+    decide_form(alloc, arena, form, signature)
+}

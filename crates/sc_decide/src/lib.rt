@@ -1,0 +1,21 @@
+//! The verdict on a formula over finite structures.
+//!
+//! - `verdict`: `Verdict`.
+//! - `trying`: structures over the terms of a formula.
+//! - `stratified`: formulas whose sort graph has no cycle.
+//! - `picking`: the elements with which a formula is true.
+//! - `shallow_terms`: formulas whose sort graph has a cycle.
+//! - `deciding`: [`decide`].
+#![tactic(auto)]
+
+mod deciding;
+mod picking;
+mod shallow_terms;
+mod stratified;
+#[cfg(test)]
+mod tests;
+mod trying;
+mod verdict;
+
+pub use deciding::decide;
+pub use verdict::Verdict;

@@ -1,0 +1,10 @@
+use Rattle.std.proofs.Common.{sym, subst}
+use Rattle.sc_equality.specs.Equality.{Equalities}
+use Rattle.sc_order.specs.Difference.{Constraints}
+use Rattle.sc_pair.specs.Pair.{PairState}
+use Rattle.sc_mixed.specs.Mixed.{AreTaken}
+use Rattle.sc_mixed.proofs.mixture.search_mixed.Goals as goal
+
+pub new-requires-clause-taken : goal.new-requires-clause-taken
+new-requires-clause-taken c =
+    let P : PairState Equalities Constraints → Type 0 = λ p. AreTaken p.left.terms p.right.variables c.args.atoms.items in subst P (sym c.in_ok-theory.ensures) c.requires.taken

@@ -1,0 +1,148 @@
+//! The search over equality and differences.
+
+ghost use Rattle.std.specs.Prelude.{◌≡◌, ◌≢◌, ◌<◌, ◌^◌, List, Bool, None, All, AllPairs, length, map};
+ghost use Rattle.std.specs.Prelude.{[], IfOk, IfSome, IsSome};
+ghost use Rattle.std.specs.List.{range_with_len};
+ghost use Rattle.sc_solver.specs.Assignment.{value_at};
+ghost use Rattle.sc_solver.specs.SolverView.{IsLawfulFor};
+ghost use Rattle.sc_solver.specs.Clauses.{IsWithin};
+ghost use Rattle.sc_mixed.specs.Mixed.{AreTaken, AreValues, IsMixed, IsMixture};
+
+use sc_order::{Diff, Order};
+use sc_solver::{Answer, PLit, Solver};
+use sc_theory::{Equality, EqualityLit, Pair, PairLit, Theory};
+use sqlite_items::Items;
+use std::alloc::{AllocError, Global};
+
+/// What a search finds: a value for each variable, a class for each term, and a number for each
+/// variable of differences.
+#[derive(Drop)]
+pub struct Mixture {
+    pub values: Vec<bool>,
+    pub classes: Items<u32>,
+    pub numbers: Items<i64>,
+}
+
+/// The value of each variable under the assignment of a solver.
+fn values_of<T: Theory>(
+    alloc: Global,
+    solver: &Solver<T>,
+    vars: u32,
+) -> Result<Vec<bool>, AllocError>
+    requires vars { solver.now.vars ≡ vars }
+    requires solved { IsSome solver.now.assignment }
+    ensures { IfOk result (λ values. IfSome solver.now.assignment (λ assignment.
+        values.items ≡ map (value_at assignment) (range_with_len 0 vars))) }
+{
+    let mut values = Vec::new(alloc);
+    for var in 0..vars {
+        values.push(solver.value_of(PLit { var, plus: true }))?;
+    }
+    Ok(values)
+}
+
+/// What a solver finds: the value of each variable and a model, or that there is none.
+fn answer<T: Theory>(
+    alloc: Global,
+    vars: u32,
+    solver: &mut Solver<T>,
+) -> Result<Option<(Vec<bool>, T::Model)>, AllocError>
+    requires { solver.old.vars ≡ vars }
+    ensures none { IfOk result (λ found. found ≡ None → (assignment : List Bool) → IsLawfulFor
+        T.models T.meets solver.old assignment → ⊥) }
+    ensures some { IfOk result (λ found. IfSome found (λ both. AreValues vars solver.old.clauses
+        both.0.items)) }
+{
+    match solver.search() {
+        Answer::Unsat => Ok(None),
+        Answer::Sat => {
+            let values = values_of(alloc, solver, vars)?;
+            let model = solver.theory().model()?;
+            Ok(Some((values, model)))
+        }
+    }
+}
+
+/// What a solver finds that is not used any more.
+fn last_answer<T: Theory + Drop>(
+    alloc: Global,
+    vars: u32,
+    solver: Solver<T>,
+) -> Result<Option<(Vec<bool>, T::Model)>, AllocError>
+    requires { solver.vars ≡ vars }
+    ensures none { IfOk result (λ found. found ≡ None → (assignment : List Bool) → IsLawfulFor
+        T.models T.meets solver assignment → ⊥) }
+    ensures some { IfOk result (λ found. IfSome found (λ both. AreValues vars solver.clauses
+        both.0.items)) }
+{
+    let mut solver = solver;
+    answer(alloc, vars, &mut solver)
+}
+
+/// The decision procedures, with nothing asserted.
+fn procedures(
+    alloc: Global,
+    terms: usize,
+    fixed: &[u32],
+    numbers: usize,
+    capacity: usize,
+) -> Result<Pair<Equality, Order>, AllocError>
+    requires few_terms { terms < 2 ^ 32 }
+    requires few_numbers { numbers < 2 ^ 32 }
+    requires few_literals { capacity < 2 ^ 32 }
+    requires some { 0 < numbers }
+    requires fixed_in { All (λ f. f < terms) fixed.now }
+    requires fixed_once { AllPairs (λ f g. f ≢ g) fixed.now }
+    ensures { IfOk result (λ p. p ≡ record {
+      left = record { literals = []; capacity = capacity; terms = terms; fixed = fixed.now };
+      right = record { variables = numbers; capacity = capacity; literals = [] };
+      sides = [];
+      capacity = capacity;
+    }) }
+{
+    let equality = Equality::new(alloc, terms, fixed, capacity)?;
+    let order = Order::new(alloc, numbers, capacity)?;
+    Pair::new(alloc, equality, order, capacity)
+}
+
+/// Searches for an assignment that meets each clause and whose equalities and differences have a
+/// model; None exactly where there is none.
+///
+/// The terms are numbers below `terms`, of which those in `fixed` are pairwise different, and those
+/// of differences numbers below `numbers`, of which 0 is zero. `atoms` has one entry for each of
+/// the variables, fewer than 2,000,000,000; so many clauses are too many.
+pub fn search_mixed(
+    alloc: Global,
+    vars: u32,
+    clauses: &[Vec<PLit>],
+    atoms: Vec<Option<(PairLit<EqualityLit, Diff>, PairLit<EqualityLit, Diff>)>>,
+    terms: usize,
+    fixed: &[u32],
+    numbers: usize,
+) -> Result<Option<Mixture>, AllocError>
+    requires few_vars { vars < 2000000000 }
+    requires few_clauses { length clauses.now < 2000000000 }
+    requires few_terms { terms < 2 ^ 32 }
+    requires few_numbers { numbers < 2 ^ 32 }
+    requires some { 0 < numbers }
+    requires fixed_in { All (λ f. f < terms) fixed.now }
+    requires fixed_once { AllPairs (λ f g. f ≢ g) fixed.now }
+    requires one_each { length atoms.items ≡ vars }
+    requires taken { AreTaken terms numbers atoms.items }
+    requires within { All (λ clause. IsWithin vars clause.items) clauses.now }
+    ensures none { IfOk result (λ found. found ≡ None → (assignment : List Bool) → IsMixed terms
+        fixed.now numbers vars (map (λ c. c.items) clauses.now) atoms.items assignment → ⊥) }
+    ensures some { IfOk result (λ found. IfSome found (IsMixture vars (map (λ c. c.items)
+        clauses.now))) }
+{
+    let theory = procedures(alloc, terms, fixed, numbers, vars as usize)?;
+    let solver = Solver::new(alloc, vars, clauses, atoms, theory)?;
+    match last_answer(alloc, vars, solver)? {
+        None => Ok(None),
+        Some((values, (classes, numbers))) => Ok(Some(Mixture {
+            values,
+            classes,
+            numbers,
+        })),
+    }
+}

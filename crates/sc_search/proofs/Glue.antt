@@ -1,0 +1,182 @@
+-- What the search finds, as a table.
+use Rattle.std.proofs.Common.{◌≡◌, ℕ, zero, suc, ◌+◌, ◌<◌, Bool, true, false, ◌⊎◌, inl, inr, refl, sym, ◌∙◌, List, [], ◌∷◌, ◌++◌, Option, Some, None, IfSome, length, get_or, map, ap, subst, arith, Contains, slice_get, IsTrue, All}
+use Rattle.std.specs.Prelude.{unwrap_or}
+use Rattle.std.specs.List.{list_all}
+use Rattle.std.proofs.lemmas.Option.{slice_get-get_or}
+use Rattle.sc_ast.specs.Words.{IsText}
+use Rattle.sc_formula.specs.NormalForm.{IsNormal}
+use Rattle.sc_formula.specs.Nodes.{ArePlaced as AreNodesPlaced}
+use Rattle.sc_formula.specs.Over.{IsOver}
+use Rattle.sc_formula.specs.Trees.{Formula}
+use Rattle.sc_formula.specs.declared.node.Node.{Node}
+use Rattle.sc_formula.specs.declared.structure.Signature.{Signature}
+use Rattle.sc_gates.specs.Clauses.{meets_clause}
+use Rattle.sc_gates.specs.Gates.{ArePlaced as AreGatesPlaced}
+use Rattle.sc_gates.specs.declared.gate.Literal.{Literal}
+use Rattle.sc_terms.specs.GroundTerms.{GroundTerm}
+use Rattle.sc_terms.specs.Passing.{IsSatisfiableOver}
+use Rattle.sc_term_arena.specs.Nodes.{ArePlaced, AreOnce}
+use Rattle.sc_tables.specs.Clauses.{base_clauses, congruence_clauses}
+use Rattle.sc_tables.specs.Facts.{Assignment, Clause, Fact, is_fact, table_for}
+use Rattle.sc_tables.specs.Models.{Model, IsLawful, assignment_of}
+use Rattle.sc_tables.proofs.Assignments.{consistent_from}
+use Rattle.sc_grounding.specs.GroundClauses.{AreGroundClauses, HaveFacts}
+use Rattle.sc_grounding.proofs.Grounded.{grounded, met_tables, met_read}
+use Rattle.sc_vocabulary.specs.Spoken.{IsSpoken}
+use Rattle.sc_vocabulary.specs.Words.{vocabulary_at, IsWords}
+use Rattle.sc_vocabulary.specs.declared.spoken.Spoken.{Spoken}
+use Rattle.sc_vocabulary.specs.declared.words.PairNode.{PairNode}
+use Rattle.sc_vocabulary.specs.declared.words.Words.{Words}
+use Rattle.sc_clauses.specs.Facts.{fact_at, clause_at, clauses_at}
+use Rattle.sc_clauses.specs.declared.facts.FactLiteral.{FactLiteral}
+use Rattle.sc_clauses.specs.declared.facts.FactNode.{FactNode}
+use Rattle.sc_clauses.specs.declared.ground.GroundClauses.{GroundClauses}
+use Rattle.sc_models.specs.declared.found.Found.{Found}
+use Rattle.sc_models.proofs.Steps.{slice_within, item_at}
+use Rattle.sc_mixed.specs.declared.mixture.Mixture.{Mixture}
+use Rattle.sc_columns.specs.Columns.{AreFound, AreTyped, IsTypedAt, IsSo, assignment_by}
+use Rattle.sc_columns.specs.declared.columns.Columns.{Columns}
+use Rattle.sc_term_arena.specs.declared.node.TermNode.{TermNode}
+use Rattle.sc_columns.proofs.Told.{so_same, typed_same, found_same}
+use Rattle.sc_search.specs.Problem.{AreSolved, HaveValues, IsNowhere}
+use Rattle.sc_search.specs.Tabled.{HasColumns, HasTable, IsGroundFor, IsTabled}
+use Rattle.sc_search.specs.declared.tabled.Tabled.{Tabled}
+use Rattle.sc_search.proofs.Encoded.{map-append}
+use Rattle.sc_search.specs.Texts.{AreTexts}
+
+mapped : {X Y : Type 0} (f : X → Y) (xs : List X) (k : ℕ) (x : X) → slice_get xs k ≡ Some x → slice_get (map f xs) k ≡ Some (f x)
+mapped f [] k x e = cc
+mapped f (y ∷ xs) zero x e = let same : y ≡ x = cc in ap (λ x. Some (f x)) same
+mapped f (y ∷ xs) (suc k) x e = mapped f xs k x e
+
+unmapped : {X Y : Type 0} (f : X → Y) (xs : List X) (k : ℕ) (y : Y) → slice_get (map f xs) k ≡ Some y → (x : X) × (slice_get xs k ≡ Some x) × (f x ≡ y)
+unmapped f [] k y e = cc
+unmapped f (x ∷ xs) zero y e = (x, refl, (let same : f x ≡ y = cc in same))
+unmapped f (x ∷ xs) (suc k) y e = unmapped f xs k y e
+
+-- all texts of a list are texts
+texts_are : (texts : List (List ℕ)) → AreTexts texts → (w : List ℕ) → Contains texts w → IsText w
+texts_are texts h w (k, lt, same) = h k w (slice_get-get_or texts k w lt ∙ ap (λ t. Some t) same)
+
+typed_both : (g : Signature) (terms : List TermNode) (c : Columns) (xs ys : List ℕ) → AreTyped g terms c xs → AreTyped g terms c ys → AreTyped g terms c (xs ++ ys)
+typed_both g terms c [] ys h k = k
+typed_both g terms c (x ∷ xs) ys h k = by (typed_both g terms c xs ys (λ j id e. h (suc j) id e) k)
+  where
+    by : AreTyped g terms c (xs ++ ys) → (i id : ℕ) → slice_get (x ∷ xs ++ ys) i ≡ Some id → IsTypedAt g terms c id
+    by rest zero id e = h 0 id e
+    by rest (suc i) id e = rest i id e
+
+module _ (g : Signature) (nodes : List Node) (f : Formula) (ts : List GroundTerm) (closed : Bool) (s : Spoken) (ground : GroundClauses) (over : IsOver g [] f) (normal : IsNormal f)
+    (is : IsSpoken g nodes f ts closed s) (gr : IsGroundFor g nodes s ground) (gates : AreGatesPlaced s.made.gates) (first : ℕ) (begins : first ≡ length s.made.inputs) where
+  abbrev all : List (List Literal)
+  all = map (λ c. c.items) ground.clauses.items ++ map (λ c. c.items) ground.gates.items
+
+  abbrev facts : List Fact
+  facts = map (fact_at nodes s.made.terms) ground.facts.items
+
+  -- where no values are, no structure passes the formula
+  pub nowhere : (texts : List (List ℕ)) → AreTexts texts → IsNowhere g nodes s.made.terms s.words texts first ground.facts.items all → IsSatisfiableOver g f (Contains ts) → ⊥
+  nowhere texts are none sat =
+      let v = vocabulary_at s.made.terms s.words in
+      let cs = base_clauses g v ++ congruence_clauses g v in
+      let (spare, m, values, law, have, meet) =
+      grounded g f ts v cs texts nodes s.made facts all over normal is.vocabulary (texts_are texts are) is.instances gates gr.clauses (λ c here. here) sat in
+      none spare m values law (λ k p e. ap (λ n. values (n + k)) begins ∙ have k (fact_at nodes s.made.terms p) (mapped (fact_at nodes s.made.terms) ground.facts.items k p e)) meet
+
+  -- and where there are values and columns, there is a table
+  pub found_table : (m : Mixture) (found : Found) → AreNodesPlaced nodes → ArePlaced s.made.terms → AreOnce s.made.terms → AreSolved all m
+      → HasColumns g nodes s.made.terms s.words ground.facts.items first m.values.items found → HasTable g f ts s found
+  found_table m found formed placed once solved has =
+      let terms = s.made.terms in
+      let pairs = s.words.pairs.items in
+      let v = vocabulary_at terms s.words in
+      let cs = base_clauses g v ++ congruence_clauses g v in
+      let a : Assignment = assignment_by terms pairs has.columns in
+      let values : ℕ → Bool = λ x. unwrap_or (slice_get m.values.items x) false in
+      let have : HaveFacts s.made facts a values =
+      λ k q e.
+      let (p, there, same) = unmapped (fact_at nodes terms) ground.facts.items k q e in
+      ap (λ n. values (n + k)) (sym begins) ∙ (so_same terms placed once nodes formed pairs is.words.pairs has.columns p (values (first + k)) (has.so k p there) ∙ ap (is_fact a) same) in
+      let met = met_tables g f ts cs nodes s.made facts all over is.instances gates gr.clauses a values have solved.meet in
+      let read = met_read g f ts cs nodes s.made facts all over is.instances gates gr.clauses a values have solved.meet in
+      let typed = typed_same terms placed once nodes formed pairs is.words.pairs has.columns g s.words (typed_both g terms has.columns s.words.named.items s.words.others.items has.named_typed has.others_typed) in
+      record {
+        table = table_for a;
+        is_found = found_same terms placed once nodes formed pairs is.words.pairs has.columns g found has.is_found;
+        consistent = consistent_from g f ts v a is.vocabulary typed met;
+        reads = read;
+      }
+
+  -- and so where the lists are these
+  pub nowhere_as : (texts : List (List ℕ)) → AreTexts texts → (fs : List FactNode) (cs : List (List Literal)) → fs ≡ ground.facts.items → cs ≡ all
+      → IsNowhere g nodes s.made.terms s.words texts first fs cs → IsSatisfiableOver g f (Contains ts) → ⊥
+  nowhere_as texts are fs cs e k none =
+      nowhere texts are
+      (subst (λ (fs : List FactNode). IsNowhere g nodes s.made.terms s.words texts first fs all) e
+      (subst (λ (cs : List (List Literal)). IsNowhere g nodes s.made.terms s.words texts first fs cs) k none))
+
+  pub found_as : (m : Mixture) (found : Found) → AreNodesPlaced nodes → ArePlaced s.made.terms → AreOnce s.made.terms → (fs : List FactNode) (cs : List (List Literal)) → fs ≡ ground.facts.items → cs ≡ all
+      → AreSolved cs m → HasColumns g nodes s.made.terms s.words fs first m.values.items found → HasTable g f ts s found
+  found_as m found formed placed once fs cs e k solved has =
+      found_table m found formed placed once (subst (λ (cs : List (List Literal)). AreSolved cs m) k solved)
+      (subst (λ (fs : List FactNode). HasColumns g nodes s.made.terms s.words fs first m.values.items found) e has)
+
+-- two lists together
+pub at_items : {V X : Type 0} (items : V → List X) (cs ds gs hs : List V) → cs ≡ ds → gs ≡ hs → map items cs ++ map items gs ≡ map items ds ++ map items hs
+at_items items cs ds gs hs e k = ap (λ xs. map items xs ++ map items gs) e ∙ ap (λ ys. map items ds ++ map items ys) k
+
+pub clauses_as : {V : Type 0} (nodes : List Node) (terms : List TermNode) (items : V → List FactLiteral) (vs us : List V) → vs ≡ us → clauses_at nodes terms (map items vs) ≡ clauses_at nodes terms (map items us)
+clauses_as nodes terms items vs us e = ap (λ xs. clauses_at nodes terms (map items xs)) e
+
+-- the columns of what was found, where the lists are these
+pub columns_as : (g : Signature) (nodes : List Node) (terms : List TermNode) (w : Words) (facts : List FactNode) (first : ℕ) (values : List Bool) (found : Found) (c : Columns)
+    (pairs : List PairNode) (vs : List Bool) (named others : List ℕ) → pairs ≡ w.pairs.items → vs ≡ values → named ≡ w.named.items → others ≡ w.others.items
+    → ((k : ℕ) (p : FactNode) → slice_get facts k ≡ Some p → IsSo nodes terms pairs c p (unwrap_or (slice_get vs (first + k)) false)) → AreTyped g terms c named → AreTyped g terms c others
+    → AreFound terms pairs c found → HasColumns g nodes terms w facts first values found
+columns_as g nodes terms w facts first values found c pairs vs named others p q r s so typed typed' is = record {
+  columns = c;
+  so = λ k fact e.
+      subst (λ (ps : List PairNode). IsSo nodes terms ps c fact (unwrap_or (slice_get values (first + k)) false)) p
+      (subst (λ (vs : List Bool). IsSo nodes terms pairs c fact (unwrap_or (slice_get vs (first + k)) false)) q (so k fact e));
+  named_typed = subst (λ (ids : List ℕ). AreTyped g terms c ids) r typed;
+  others_typed = subst (λ (ids : List ℕ). AreTyped g terms c ids) s typed';
+  is_found = subst (λ (ps : List PairNode). AreFound terms ps c found) p is;
+}
+
+tabled_same : (t : Tabled) (x : List TermNode) (y : Words) (z : Found) → t.terms ≡ x → t.words ≡ y → t.found ≡ z → record { terms = x; words = y; found = z } ≡ t
+tabled_same t x y z p q r =
+    let P : List TermNode → Tabled = λ u. record { terms = u; words = y; found = z } in
+    let Q : Words → Tabled = λ u. record { terms = t.terms; words = u; found = z } in
+    let R : Found → Tabled = λ u. record { terms = t.terms; words = t.words; found = u } in
+    ap P (sym p) ∙ (ap Q (sym q) ∙ ap R (sym r))
+
+-- what was found, with what it is read by
+pub tabled_by : (g : Signature) (nodes : List Node) (f : Formula) (ts : List GroundTerm) (closed : Bool) (s : Spoken) (found : Found) (t : Tabled) → IsSpoken g nodes f ts closed s → HasTable g f ts s found
+    → t.terms ≡ s.made.terms → t.words ≡ s.words → t.found ≡ found → IsTabled g f ts closed t
+tabled_by g nodes f ts closed s found t is has p q r =
+    subst (λ (t : Tabled). IsTabled g f ts closed t) (tabled_same t s.made.terms s.words found p q r)
+    (record {
+      numbers = is.words;
+      words = is.vocabulary;
+      within = is.within;
+      table = has.table;
+      found = has.is_found;
+      consistent = has.consistent;
+      reads = has.reads;
+    })
+
+-- the clauses say that the formula holds and its table is consistent
+pub ground_for : (g : Signature) (nodes : List Node) (s : Spoken) (ground : GroundClauses) (cs : List Clause)
+    → AreGroundClauses s.made (map (fact_at nodes s.made.terms) ground.facts.items) nodes cs (map (λ c. c.items) ground.clauses.items ++ map (λ c. c.items) ground.gates.items)
+    → cs ≡ base_clauses g (vocabulary_at s.made.terms s.words) ++ congruence_clauses g (vocabulary_at s.made.terms s.words) → IsGroundFor g nodes s ground
+ground_for g nodes s ground cs h same = record {
+  clauses =
+      subst (λ (cs : List Clause). AreGroundClauses s.made (map (fact_at nodes s.made.terms) ground.facts.items) nodes cs (map (λ c. c.items) ground.clauses.items ++ map (λ c. c.items) ground.gates.items))
+      same h;
+}
+
+-- the clauses of two lists
+pub both_clauses : (nodes : List Node) (terms : List TermNode) (left right both : List (List FactLiteral)) (base congruence : List Clause) → both ≡ left ++ right → clauses_at nodes terms left ≡ base
+    → clauses_at nodes terms right ≡ congruence → clauses_at nodes terms both ≡ base ++ congruence
+both_clauses nodes terms left right both base congruence e h k =
+    ap (clauses_at nodes terms) e ∙ (map-append (clause_at nodes terms) left right ∙ (ap (λ cs. cs ++ clauses_at nodes terms right) h ∙ ap (λ cs. base ++ cs) k))

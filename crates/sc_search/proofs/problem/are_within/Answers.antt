@@ -1,0 +1,14 @@
+use Rattle.std.proofs.Common.{List, Vec, Global, arith, refl, subst}
+use Rattle.sc_solver.specs.declared.literal.PLit.{PLit}
+use Rattle.sc_solver.specs.Clauses.{IsWithin}
+use Rattle.sc_search.proofs.Loops.{all_more, all_done}
+use Rattle.sc_search.proofs.problem.are_within.Goals as goal
+
+pub loop-clause-preserved : goal.loop-clause-preserved
+loop-clause-preserved c =
+    all_more (λ clause. IsWithin c.args.bound clause.items) c.args.clauses.now c.loop-clause.clause-index c.clause-item.result c.loop-clause-test.true c.loop-clause.invariant
+    (subst (λ (v : Vec PLit Global). IsWithin c.args.bound v.items) c.clause-item.is
+    (subst (λ (ls : List PLit). IsWithin c.args.bound ls) c.as_slice.ensures.value (c.if-not-is_within.ensures refl)))
+
+pub returns : goal.returns
+returns c = λ same. all_done (λ clause. IsWithin c.args.bound clause.items) c.args.clauses.now c.loop-clause.clause-index (omega arith) c.loop-clause.invariant

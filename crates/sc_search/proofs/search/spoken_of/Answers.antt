@@ -1,0 +1,13 @@
+use Rattle.sc_formula.specs.Nodes.{formula_of}
+use Rattle.std.proofs.Common.{◌∙◌, ap, map}
+use Rattle.sc_ground.specs.Variables.{variable_at}
+use Rattle.sc_ground.specs.TermLists.{terms_in}
+use Rattle.sc_search.proofs.Solved.{ok_too}
+use Rattle.sc_search.proofs.search.spoken_of.Goals as goal
+
+pub returns-clause-spoken : goal.returns-clause-spoken
+returns-clause-spoken c =
+    ok_too c.vocabulary_of.result _ _
+    (λ spoken h over formed.
+    h (formula_of c.args.arena.now c.args.id) (terms_in c.args.terms) over formed (ap (map variable_at) c.as_slice.ensures.value ∙ c.in_ok-variables.ensures c.args.signature.now) c.in_ok-made.ensures)
+    c.vocabulary_of.ensures.spoken

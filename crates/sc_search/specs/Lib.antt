@@ -1,0 +1,6 @@
+pub mod Encoding
+pub mod Halving
+pub mod Problem
+pub mod Public
+pub mod Tabled
+pub mod Texts

@@ -1,0 +1,27 @@
+//! The search for a table by which a formula is read over ground terms.
+//!
+//! - `tabled`: `Tabled`, what a search gives.
+//! - `sides`: what values are to the decision procedures.
+//! - `atoms`: facts as equalities of terms and differences of numbers.
+//! - `halves`: equalities of numbers, as their halves.
+//! - `solving`: the search for values that meet clauses.
+//! - `texts`: the texts of facts.
+//! - `problem`: clauses for the solver.
+//! - `spares`: texts for classes that have none of the formula's.
+//! - `reading`: what was found, read from what the solver found.
+//! - `search`: [`find_table`].
+#![tactic(auto)]
+
+mod atoms;
+mod halves;
+mod problem;
+mod reading;
+mod search;
+mod sides;
+mod solving;
+mod spares;
+mod tabled;
+mod texts;
+
+pub use search::find_table;
+pub use tabled::Tabled;

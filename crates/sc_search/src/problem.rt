@@ -1,0 +1,153 @@
+//! Clauses for the solver.
+
+ghost use Rattle.std.specs.Prelude.{◌≡◌, ℕ, ◌<◌, ◌++◌, true, All, IsTrue, IfOk, OnOk, length, map};
+ghost use Rattle.sc_mixed.specs.Mixed.{AreTaken};
+ghost use Rattle.sc_order.specs.Difference.{is_literal};
+ghost use Rattle.sc_equality.specs.Equality.{takes_literal};
+ghost use Rattle.sc_pair.specs.Pair.{takes_own};
+ghost use Rattle.sc_solver.specs.Clauses.{IsWithin};
+ghost use Rattle.sc_solver.specs.ContextView.{IsTaken};
+ghost use Rattle.sc_search.specs.Problem.{AreBelow, plit_of};
+
+use crate::atoms::{Atom, Lit};
+use sc_gates::Literal;
+use sc_order::Diff;
+use sc_solver::PLit;
+use sc_theory::{EqualityLit, PairLit};
+use std::alloc::{AllocError, Global};
+
+/// A clause for the solver.
+fn plits_of(alloc: Global, clause: &[Literal]) -> Result<Vec<PLit>, AllocError>
+    ensures { IfOk result (λ plits. plits.items ≡ map plit_of clause.now) }
+{
+    let mut plits = Vec::new(alloc);
+    for literal in clause {
+        plits.push(PLit {
+            var: literal.var,
+            plus: literal.plus,
+        })?;
+    }
+    Ok(plits)
+}
+
+/// Puts clauses for the solver at the end.
+pub(crate) fn push_clauses(
+    alloc: Global,
+    clauses: &[Vec<Literal>],
+    all: &mut Vec<Vec<PLit>>,
+) -> Result<(), AllocError>
+    ensures { OnOk result (map (λ c. c.items) all.new.items ≡ map (λ c. c.items) all.old.items
+        ++ map (map plit_of) (map (λ c. c.items) clauses.now)) }
+{
+    for clause in clauses {
+        let plits = plits_of(alloc, clause.as_slice())?;
+        all.push(plits)?;
+    }
+    Ok(())
+}
+
+/// Puts copies of clauses at the end.
+pub(crate) fn push_copies(
+    alloc: Global,
+    clauses: &[Vec<PLit>],
+    all: &mut Vec<Vec<PLit>>,
+) -> Result<(), AllocError>
+    ensures { OnOk result (map (λ c. c.items) all.new.items ≡ map (λ c. c.items) all.old.items
+        ++ map (λ c. c.items) clauses.now) }
+{
+    for clause in clauses {
+        let copy = Vec::from_slice(alloc, clause.as_slice())?;
+        all.push(copy)?;
+    }
+    Ok(())
+}
+
+/// Whether the variables of a clause are below a bound.
+fn is_below(bound: u32, clause: &[Literal]) -> bool
+    ensures { result ≡ true → All (λ l. l.var < bound) clause.now }
+{
+    for literal in clause {
+        if literal.var >= bound {
+            return false;
+        }
+    }
+    true
+}
+
+/// Whether the variables of clauses are below a bound.
+pub(crate) fn are_below(bound: u32, clauses: &[Vec<Literal>]) -> bool
+    ensures { result ≡ true → All (λ c. AreBelow bound c.items) clauses.now }
+{
+    for clause in clauses {
+        if !is_below(bound, clause.as_slice()) {
+            return false;
+        }
+    }
+    true
+}
+
+/// Whether the variables of a clause for the solver are below a bound.
+fn is_within(bound: u32, clause: &[PLit]) -> bool
+    ensures { result ≡ true → IsWithin bound clause.now }
+{
+    for literal in clause {
+        if literal.var >= bound {
+            return false;
+        }
+    }
+    true
+}
+
+/// Whether the variables of clauses for the solver are below a bound.
+pub(crate) fn are_within(bound: u32, clauses: &[Vec<PLit>]) -> bool
+    ensures { result ≡ true → All (λ c. IsWithin bound c.items) clauses.now }
+{
+    for clause in clauses {
+        if !is_within(bound, clause.as_slice()) {
+            return false;
+        }
+    }
+    true
+}
+
+/// The bounds of differences.
+const MOST_DIFFERENCE: i128 = 1 << 65;
+
+/// Whether a literal speaks of terms and numbers that there are.
+fn is_taken(terms: u32, numbers: u32, literal: Lit) -> bool
+    ensures { result ≡ true → IsTrue (takes_own (takes_literal terms) (is_literal numbers)
+        literal) }
+{
+    match literal {
+        PairLit::Left(EqualityLit::Same(a, b) | EqualityLit::Differ(a, b)) => a < terms
+            && b < terms,
+        PairLit::Right(Diff { x, y, c }) => {
+            x < numbers && y < numbers && -MOST_DIFFERENCE <= c && c <= MOST_DIFFERENCE
+        }
+    }
+}
+
+/// Whether the literals of a variable speak of terms and numbers that there are.
+fn is_taken_atom(terms: u32, numbers: u32, atom: &Atom) -> bool
+    ensures { result ≡ true → IsTaken (takes_own (takes_literal terms) (is_literal numbers))
+        atom.now }
+{
+    match atom {
+        Some((when_true, when_false)) => {
+            is_taken(terms, numbers, *when_true) && is_taken(terms, numbers, *when_false)
+        }
+        None => true,
+    }
+}
+
+/// Whether literals speak of terms and numbers that there are.
+pub(crate) fn are_taken(terms: u32, numbers: u32, atoms: &[Atom]) -> bool
+    ensures { result ≡ true → AreTaken terms numbers atoms.now }
+{
+    for atom in atoms {
+        if !is_taken_atom(terms, numbers, atom) {
+            return false;
+        }
+    }
+    true
+}

@@ -1,0 +1,197 @@
+//! The search for values that meet clauses in which facts are as in a lawful model.
+
+ghost use Rattle.std.specs.Prelude.{◌≡◌, ◌+◌, ◌<◌, ◌++◌, Bool, List, None, IfOk, IfSome, length, map};
+ghost use Rattle.std.specs.List.{range_with_len};
+ghost use Rattle.sc_mixed.specs.Mixed.{Atom as AnyAtom, IsMixed, IsMixture};
+ghost use Rattle.sc_search.specs.Problem.{AreSolved, IsNowhere, IsPlainlyMixed, plit_of};
+ghost use Rattle.sc_search.specs.Texts.{StandOnce};
+
+use crate::atoms::{Atom, atoms_for};
+use crate::halves::halves_of;
+use crate::problem::{are_below, are_taken, are_within, push_clauses, push_copies};
+use crate::sides::Reader;
+use sc_ast::Txt;
+use sc_clauses::FactNode;
+use sc_gates::Literal;
+use sc_mixed::{Mixture, search_mixed};
+use sc_solver::PLit;
+use sc_term_arena::TermArena;
+use std::alloc::{AllocError, Global};
+
+/// The numbers from one on, so many.
+fn numbers_from(alloc: Global, first: u32, count: u32) -> Result<Vec<u32>, AllocError>
+    ensures { IfOk result (λ numbers. numbers.items ≡ range_with_len first count) }
+{
+    let Some(_end) = first.checked_add(count) else {
+        return Err(AllocError);
+    };
+    let mut numbers = Vec::new(alloc);
+    for place in 0..count {
+        numbers.push(first + place)?;
+    }
+    Ok(numbers)
+}
+
+/// How many terms there are, if these are few.
+fn few_terms(terms: &TermArena) -> Result<u32, AllocError>
+    ensures is { IfOk result (λ few. few ≡ length terms.now) }
+    ensures less { IfOk result (λ few. few < 1999999999) }
+{
+    let count = terms.len();
+    if count >= 1_999_999_999 {
+        return Err(AllocError);
+    }
+    Ok(count as u32)
+}
+
+/// How many texts there are, if these are few.
+fn few_texts(texts: &[Txt]) -> Result<u32, AllocError>
+    ensures is { IfOk result (λ few. few ≡ length texts.now) }
+    ensures less { IfOk result (λ few. few < 1999999999) }
+{
+    let count = texts.len();
+    if count >= 1_999_999_999 {
+        return Err(AllocError);
+    }
+    Ok(count as u32)
+}
+
+/// How many variables there are with those of halves, if these are few.
+fn few_variables(vars: u32, halves: &[FactNode]) -> Result<u32, AllocError>
+    ensures is { IfOk result (λ few. few ≡ vars + length halves.now) }
+    ensures less { IfOk result (λ few. few < 1999999999) }
+{
+    let Some(count) = (vars as usize).checked_add(halves.len()) else {
+        return Err(AllocError);
+    };
+    if count >= 1_999_999_999 {
+        return Err(AllocError);
+    }
+    Ok(count as u32)
+}
+
+/// Searches for an assignment that meets clauses whose equalities and differences have a model, where
+/// so many terms are followed by texts, which are pairwise different.
+fn search_checked(
+    alloc: Global,
+    terms: u32,
+    texts: u32,
+    vars: u32,
+    clauses: &[Vec<PLit>],
+    atoms: Vec<Atom>,
+) -> Result<Option<Mixture>, AllocError>
+    requires terms { terms < 1999999999 }
+    requires texts { texts < 1999999999 }
+    requires vars { vars < 2000000000 }
+    requires one_each { length atoms.items ≡ vars }
+    ensures none { IfOk result (λ found. found ≡ None → (assignment : List Bool) → IsMixed (terms +
+        texts) (range_with_len terms texts) (terms + 1) vars (map (λ c. c.items) clauses.now)
+        atoms.items assignment → ⊥) }
+    ensures some { IfOk result (λ found. IfSome found (IsMixture vars (map (λ c. c.items)
+        clauses.now))) }
+{
+    let fixed = numbers_from(alloc, terms, texts)?;
+    if !are_taken(terms + texts, terms + 1, atoms.as_slice()) || !are_within(vars, clauses) {
+        return Err(AllocError);
+    }
+    if clauses.len() >= 2_000_000_000 {
+        return Err(AllocError);
+    }
+    search_mixed(
+        alloc,
+        vars,
+        clauses,
+        atoms,
+        (terms + texts) as usize,
+        fixed.as_slice(),
+        (terms + 1) as usize,
+    )
+}
+
+/// All clauses for the solver.
+fn clauses_for(
+    alloc: Global,
+    clauses: &[Vec<Literal>],
+    gates: &[Vec<Literal>],
+    links: &[Vec<PLit>],
+) -> Result<Vec<Vec<PLit>>, AllocError>
+    ensures { IfOk result (λ all. map (λ c. c.items) all.items ≡ (map (map plit_of) (map (λ c.
+        c.items) clauses.now) ++ map (map plit_of) (map (λ c. c.items) gates.now)) ++ map (λ c.
+        c.items) links.now) }
+{
+    let mut all = Vec::new(alloc);
+    push_clauses(alloc, clauses, &mut all)?;
+    push_clauses(alloc, gates, &mut all)?;
+    push_copies(alloc, links, &mut all)?;
+    Ok(all)
+}
+
+/// The clauses that a search has to meet.
+#[derive(Clone, Copy)]
+pub(crate) struct Ground<'a> {
+    pub(crate) facts: &'a [FactNode],
+    /// The variable of the first fact, and how many variables there are.
+    pub(crate) first: u32,
+    pub(crate) vars: u32,
+    pub(crate) clauses: &'a [Vec<Literal>],
+    pub(crate) gates: &'a [Vec<Literal>],
+}
+
+/// Searches for values that meet clauses, by the halves of equalities of numbers.
+fn solve_with(
+    alloc: Global,
+    reader: Reader<'_>,
+    ground: Ground<'_>,
+    halves: &[FactNode],
+    links: &[Vec<PLit>],
+) -> Result<Option<Mixture>, AllocError>
+    ensures none { IfOk result (λ found. found ≡ None → (atoms : List AnyAtom) × IsPlainlyMixed
+        reader.entry.signature.now reader.entry.arena.now reader.entry.terms.now
+        reader.entry.words.now reader.entry.texts.now ground.entry.first ground.entry.vars
+        ground.entry.facts.now halves.now (map (λ c. c.items) ground.entry.clauses.now
+        ++ map (λ c. c.items) ground.entry.gates.now) (map (λ c. c.items) links.now)
+        atoms) }
+    ensures some { IfOk result (λ found. IfSome found (AreSolved (map (λ c. c.items)
+        ground.entry.clauses.now ++ map (λ c. c.items) ground.entry.gates.now))) }
+{
+    let terms = few_terms(reader.terms)?;
+    let texts = few_texts(reader.texts)?;
+    let total = few_variables(ground.vars, halves)?;
+    if !are_below(ground.vars, ground.clauses) || !are_below(ground.vars, ground.gates) {
+        return Err(AllocError);
+    }
+    let clauses = clauses_for(alloc, ground.clauses, ground.gates, links)?;
+    let atoms = atoms_for(
+        alloc,
+        reader,
+        ground.first,
+        ground.vars,
+        ground.facts,
+        halves,
+    )?;
+    if atoms.len() != total as usize {
+        return Err(AllocError);
+    }
+    search_checked(alloc, terms, texts, total, clauses.as_slice(), atoms)
+}
+
+/// Searches for values that meet clauses in which facts are as in a lawful model; None only where there
+/// are no such values and no such model.
+pub(crate) fn solve(
+    alloc: Global,
+    reader: Reader<'_>,
+    ground: Ground<'_>,
+) -> Result<Option<Mixture>, AllocError>
+    requires { StandOnce reader.texts.now }
+    ensures none { IfOk result (λ found. found ≡ None → IsNowhere reader.entry.signature.now
+        reader.entry.arena.now reader.entry.terms.now reader.entry.words.now
+        reader.entry.texts.now ground.entry.first ground.entry.facts.now (map (λ c. c.items)
+        ground.entry.clauses.now ++ map (λ c. c.items) ground.entry.gates.now)) }
+    ensures some { IfOk result (λ found. IfSome found (AreSolved (map (λ c. c.items)
+        ground.entry.clauses.now ++ map (λ c. c.items) ground.entry.gates.now))) }
+{
+    let halves = halves_of(alloc, reader, ground.first, ground.vars, ground.facts)?;
+    let facts = halves.facts.as_slice();
+    let links = halves.links.as_slice();
+    solve_with(alloc, reader, ground, facts, links)
+}
