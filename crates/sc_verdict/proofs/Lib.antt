@@ -1,2 +1,3 @@
+pub mod Agree
 pub mod Picked
 pub mod Sound

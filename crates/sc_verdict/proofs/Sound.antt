@@ -14,8 +14,6 @@ use Rattle.sc_formula.specs.declared.structure.Structure.{Structure}
 use Rattle.sc_formula.specs.NormalForm.{normal_form}
 use Rattle.sc_formula.specs.Trees.{Formula}
 use Rattle.sc_formula.specs.Truth.{truth}
-use Rattle.sc_formula.proofs.NormalForms.{truth-signed_form}
-use Rattle.sc_terms.specs.Counts.{term_count, IsTooLarge}
 use Rattle.sc_terms.specs.Structures.{IsStructure}
 use Rattle.sc_terms.specs.Universe.{IsShallowTerm}
 use Rattle.sc_terms.proofs.Witnesses.{passes_where_true}
@@ -30,18 +28,14 @@ use Rattle.sc_duty.proofs.Flows.{true_flows}
 use Rattle.sc_duty.proofs.Listed.{from-list}
 use Rattle.sc_duty.proofs.Shapes.{structures_are_over, unsatisfied_secure}
 use Rattle.sc_witness.specs.Witness.{Witness}
+use Rattle.sc_decide.specs.Verdicts.{IsSafe}
 use Rattle.sc_verdict.specs.FailsBy.{IsGainOf, IsLeakOf}
-use Rattle.sc_verdict.specs.Outcomes.{accepted, leak, undecided, too_large, IsCleared, Stratified, Shallow, normal_formula, IsDue}
+use Rattle.sc_verdict.specs.Outcomes.{accepted, leak, undecided, too_large, IsDue}
 use Rattle.sc_verdict.specs.Sound.{ClearedDoNotFail, AcceptedAreSecure, LeaksAreReal, Accepted, Leak, DecidableAreSettled}
 
 -- a cleared formula is true on no structure
-cleared-false : (g : Signature) (f : Formula) → IsCleared g (normal_form f) → (s : Structure) → IsStructure g s → truth s [] f ≡ true → ⊥
-cleared-false g f cleared s over e =
-    let here : truth s [] (normal_form f) ≡ true = truth-signed_form s true [] f ∙ e in
-    elim cleared [
-      | Stratified stratified within none ↦ none (s, record { structure = over; true_there = here })
-      | Shallow stratified within none ↦ none (s, over, passes_where_true g (normal_form f) (IsShallowTerm g (normal_form f)) s here)
-    ]
+cleared-false : (g : Signature) (f : Formula) → IsSafe g f (normal_form f) → (s : Structure) → IsStructure g s → truth s [] f ≡ true → ⊥
+cleared-false g f safe s over e = safe.nowhere (s, record { structure = over; true_there = e })
 
 fails-true : (t : Script) → IsScript t → (duty : Duty) (w : Witness) (spot : Option ℕ) → MatchOption spot (IsGainDuty t duty) (IsUseDuty t duty)
     → MatchOption spot (IsGainOf t duty w) (IsLeakOf t duty w)
@@ -71,9 +65,9 @@ fails-insecure t duty w None h secure = secure.no_gain duty.command duty.target 
 fails-insecure t duty w (Some spot) h secure = secure.no_flow duty.command w.base w.row w.who (cell_of h.at h.source) h.flow
 
 pub leaks_are_real : LeaksAreReal
-leaks_are_real t w h secure = fails-insecure t h.over.duty w h.over.duty.spot h.over.fails.fails secure
+leaks_are_real t w h secure = fails-insecure t h.over.duty w h.over.duty.spot h.over.unsettled.fails.fails secure
 
-due-listed : (t : Script) (g : Signature) (duty : Duty) → IsDue t g duty → Contains (obligations_of t) duty
+pub due-listed : (t : Script) (g : Signature) (duty : Duty) → IsDue t g duty → Contains (obligations_of t) duty
 due-listed t g duty due =
     let P : Duty → Type 0 = λ x. Contains (obligations_of t) x in
     subst P (get_or_from_slice_get (obligations_of t) due.place duty duty due.at)
@@ -83,9 +77,6 @@ pub decidable_are_settled : DecidableAreSettled
 decidable_are_settled t decidable (accepted n) h = Accepted n
 decidable_are_settled t decidable (leak w) h = Leak w
 decidable_are_settled t decidable (undecided duty cycle) h =
-    absurd (h.over.not_stratified (decidable h.signature h.signature_of duty (due-listed t h.signature duty h.over.due)).0)
+    absurd (h.over.unsettled.unknown.not_stratified (decidable h.signature h.signature_of h.over.duty (due-listed t h.signature h.over.duty h.over.due)).0)
 decidable_are_settled t decidable (too_large duty terms nodes) h =
-    let within = (decidable h.signature h.signature_of duty (due-listed t h.signature duty h.over.due)).1 in
-    absurd (within
-    (subst (λ (n : ℕ). IsTooLarge (term_count h.signature (normal_formula t duty)) n) h.over.nodes_are
-    (subst (λ (n : ℕ). IsTooLarge n nodes) h.over.terms_are h.over.too_large)))
+    absurd ((decidable h.signature h.signature_of h.over.duty (due-listed t h.signature h.over.duty h.over.due)).1 h.over.unsettled.counts.over_limit)

@@ -1,3 +1,4 @@
+pub mod Agree
 pub mod FailsBy
 pub mod Outcomes
 pub mod Picked

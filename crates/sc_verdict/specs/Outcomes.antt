@@ -1,19 +1,12 @@
 -- The outcomes of checking a script.
-use Rattle.std.specs.Prelude.{◌≡◌, ◌<◌, ◌⊎◌, ℕ, false, [], List, map, length, Some, Contains, slice_get, slice_index_or}
+use Rattle.std.specs.Prelude.{◌≡◌, ◌<◌, ◌-◌, ℕ, List, map, length, take, Option, Some, Contains, slice_get, slice_index_or}
 use Rattle.sc_schema.specs.Proper.{model_numbers}
 use Rattle.sc_schema.specs.Script.{Script}
 use Rattle.sc_formula.specs.declared.structure.Signature.{Signature}
 use Rattle.sc_formula.specs.declared.structure.Structure.{Structure}
 use Rattle.sc_formula.specs.NormalForm.{normal_form}
-use Rattle.sc_formula.specs.Trees.{Formula}
-use Rattle.sc_formula.specs.Truth.{truth}
-use Rattle.sc_strata.specs.Order.{IsCycle}
-use Rattle.sc_strata.specs.SortGraph.{edges_of, IsStratified}
-use Rattle.sc_terms.specs.Counts.{term_count, node_count, shallow_term_count, shallow_node_count, IsTooLarge}
-use Rattle.sc_terms.specs.Passing.{Passes, IsSatisfiableOver}
-use Rattle.sc_terms.specs.Satisfying.{IsSatisfiable}
-use Rattle.sc_terms.specs.Structures.{IsStructure}
-use Rattle.sc_terms.specs.Universe.{IsShallowTerm}
+use Rattle.sc_strata.specs.SortGraph.{IsStratified}
+use Rattle.sc_decide.specs.Verdicts.{IsOverLimit, IsSafe, IsUnknown, IsTooLargeBy}
 use Rattle.sc_duty.specs.declared.duty.Duty.{Duty}
 use Rattle.sc_duty.specs.Duties.{obligations_of, formula_of}
 use Rattle.sc_duty.specs.Over.{IsSignatureOf}
@@ -28,76 +21,69 @@ pub data Outcome : Type 0 where
   undecided : Duty → List ℕ → Outcome
   too_large : Duty → (terms nodes : ℕ) → Outcome
 
--- ---- formulas, in normal form
-
-module _ (g : Signature) (f : Formula) where
-  abbrev pub IsWithinLimits : Type 0
-  IsWithinLimits = IsTooLarge (term_count g f) (node_count g f) → ⊥
-
-  abbrev pub IsShallowWithinLimits : Type 0
-  IsShallowWithinLimits = IsTooLarge (shallow_term_count g f) (shallow_node_count g f) → ⊥
-
-  -- The formula is decided to hold on no finite structure: it is stratified and within the limits and has none, or it is not stratified,
-  -- and no finite structure passes it over its shallow terms, which are within the limits.
-  pub data IsCleared : Type 0 where
-    Stratified : IsStratified g f → IsWithinLimits → (IsSatisfiable g f → ⊥) → IsCleared
-    Shallow : (IsStratified g f → ⊥) → IsShallowWithinLimits → (IsSatisfiableOver g f (IsShallowTerm g f) → ⊥) → IsCleared
-
-  -- some finite structure passes the formula over its shallow terms and does not satisfy it
-  pub record IsTried : Type 0 where
-    pub structure : Structure
-    pub over : IsStructure g structure
-    pub passes : Passes g f (IsShallowTerm g f) structure
-    pub not_true : truth structure [] f ≡ false
-
-  -- Its shallow terms do not tell whether it holds on some structure.
-  abbrev pub IsOpen : Type 0
-  IsOpen = IsTooLarge (shallow_term_count g f) (shallow_node_count g f) ⊎ IsTried
-
 -- ---- outcomes
 
 module _ (t : Script) where
-  -- the normal form of the formula of an obligation
-  abbrev pub normal_formula : Duty → Formula
-  normal_formula duty = normal_form (formula_of t duty)
-
   -- the model of a sort
   abbrev pub model_of_sort : ℕ → ℕ
   model_of_sort sort = slice_index_or (model_numbers t.start.models) sort 0
 
+  -- the models of a cycle of sorts, whose first is repeated last: each once
+  abbrev pub models_of_cycle : List ℕ → List ℕ
+  models_of_cycle sorts = map model_of_sort (take (length sorts - 1) sorts)
+
   module _ (g : Signature) where
+    -- the formula of the obligation is decided to hold on no finite structure
+    abbrev pub IsCleared : Duty → Type 0
+    IsCleared duty = IsSafe g (formula_of t duty) (normal_form (formula_of t duty))
+
+    -- it is stratified, and it is within the limits of instantiation
+    abbrev pub HasStrata : Duty → Type 0
+    HasStrata duty = IsStratified g (normal_form (formula_of t duty))
+
+    abbrev pub IsWithinLimits : Duty → Type 0
+    IsWithinLimits duty = IsOverLimit g (formula_of t duty) (normal_form (formula_of t duty)) → ⊥
+
     -- the obligation is one of the script, and all before it are cleared
     pub record IsDue (duty : Duty) : Type 0 where
       pub place : ℕ
       pub at : slice_get (obligations_of t) place ≡ Some duty
-      pub cleared : (k : ℕ) (before : Duty) → k < place → slice_get (obligations_of t) k ≡ Some before → IsCleared g (normal_formula before)
+      pub cleared : (k : ℕ) (before : Duty) → k < place → slice_get (obligations_of t) k ≡ Some before → IsCleared before
 
-    pub record IsLeak (w : Witness) : Type 0 where
+    -- ---- what an obligation comes to that is not cleared
+
+    pub record IsLeak (duty : Duty) (w : Witness) : Type 0 where
+      pub fails : FailsBy t duty w
+      pub within : HasStrata duty → IsWithinLimits duty
+
+    pub record IsUndecided (duty of_duty : Duty) (cycle : List ℕ) : Type 0 where
+      pub named : of_duty ≡ duty
+      pub sorts : List ℕ
+      pub tried : Option Structure
+      pub models : cycle ≡ models_of_cycle sorts
+      pub unknown : IsUnknown g (formula_of t duty) (normal_form (formula_of t duty)) sorts tried
+
+    pub record IsTooLarge (duty of_duty : Duty) (terms nodes : ℕ) : Type 0 where
+      pub named : of_duty ≡ duty
+      pub counts : IsTooLargeBy g (formula_of t duty) (normal_form (formula_of t duty)) terms nodes
+
+    abbrev pub IsUnsettled : Duty → Outcome → Type 0
+    IsUnsettled duty (accepted n) = ⊥
+    IsUnsettled duty (leak w) = IsLeak duty w
+    IsUnsettled duty (undecided of_duty cycle) = IsUndecided duty of_duty cycle
+    IsUnsettled duty (too_large of_duty terms nodes) = IsTooLarge duty of_duty terms nodes
+
+    -- the first obligation that is not cleared comes to this
+    pub record IsFirst (outcome : Outcome) : Type 0 where
       pub duty : Duty
       pub due : IsDue duty
-      pub fails : FailsBy t duty w
-      pub within : IsStratified g (normal_formula duty) → IsWithinLimits g (normal_formula duty)
-
-    pub record IsUndecided (duty : Duty) (cycle : List ℕ) : Type 0 where
-      pub due : IsDue duty
-      pub sorts : List ℕ
-      pub is_cycle : IsCycle (edges_of g (normal_formula duty)) sorts
-      pub models : cycle ≡ map model_of_sort sorts
-      pub not_stratified : IsStratified g (normal_formula duty) → ⊥
-      pub open_still : IsOpen g (normal_formula duty)
-
-    pub record HasCounts (duty : Duty) (terms nodes : ℕ) : Type 0 where
-      pub due : IsDue duty
-      pub stratified : IsStratified g (normal_formula duty)
-      pub terms_are : terms ≡ term_count g (normal_formula duty)
-      pub nodes_are : nodes ≡ node_count g (normal_formula duty)
-      pub too_large : IsTooLarge terms nodes
+      pub unsettled : IsUnsettled duty outcome
 
     abbrev pub IsOutcomeOver : Outcome → Type 0
-    IsOutcomeOver (accepted n) = (n ≡ length (obligations_of t)) × ((duty : Duty) → Contains (obligations_of t) duty → IsCleared g (normal_formula duty))
-    IsOutcomeOver (leak w) = IsLeak w
-    IsOutcomeOver (undecided duty cycle) = IsUndecided duty cycle
-    IsOutcomeOver (too_large duty terms nodes) = HasCounts duty terms nodes
+    IsOutcomeOver (accepted n) = (n ≡ length (obligations_of t)) × ((duty : Duty) → Contains (obligations_of t) duty → IsCleared duty)
+    IsOutcomeOver (leak w) = IsFirst (leak w)
+    IsOutcomeOver (undecided duty cycle) = IsFirst (undecided duty cycle)
+    IsOutcomeOver (too_large duty terms nodes) = IsFirst (too_large duty terms nodes)
 
   -- the outcome of the script, over the signature of the schema of its start databases
   pub record IsOutcome (outcome : Outcome) : Type 0 where

@@ -3,19 +3,18 @@ use Rattle.std.specs.Prelude.{ℕ, Contains}
 use Rattle.sc_schema.specs.Script.{Script, IsScript}
 use Rattle.sc_eval.specs.Secure.{IsSecure, IsStepSecure}
 use Rattle.sc_formula.specs.declared.structure.Signature.{Signature}
-use Rattle.sc_strata.specs.SortGraph.{IsStratified}
 use Rattle.sc_duty.specs.declared.duty.Duty.{Duty}
 use Rattle.sc_duty.specs.Duties.{obligations_of}
 use Rattle.sc_duty.specs.Over.{IsSignatureOf}
 use Rattle.sc_witness.specs.Witness.{Witness}
 use Rattle.sc_verdict.specs.FailsBy.{FailsBy}
-use Rattle.sc_verdict.specs.Outcomes.{Outcome, accepted, leak, IsWithinLimits, IsCleared, normal_formula, IsOutcome}
+use Rattle.sc_verdict.specs.Outcomes.{Outcome, accepted, leak, IsCleared, HasStrata, IsWithinLimits, IsOutcome}
 
 -- An obligation that is cleared fails by no witness.
 abbrev pub ClearedDoNotFail : Type 0
 ClearedDoNotFail =
     (t : Script) → IsScript t → (g : Signature) → IsSignatureOf t.start g → (duty : Duty) → Contains (obligations_of t) duty
-    → IsCleared g (normal_formula t duty) → (w : Witness) → FailsBy t duty w → ⊥
+    → IsCleared t g duty → (w : Witness) → FailsBy t duty w → ⊥
 
 -- An accepted script is secure, at each step and as a whole.
 abbrev pub AcceptedAreSecure : Type 0
@@ -29,7 +28,7 @@ LeaksAreReal = (t : Script) (w : Witness) → IsOutcome t (leak w) → IsStepSec
 abbrev pub IsDecidable : Script → Type 0
 IsDecidable t =
     (g : Signature) → IsSignatureOf t.start g → (duty : Duty) → Contains (obligations_of t) duty
-    → IsStratified g (normal_formula t duty) × IsWithinLimits g (normal_formula t duty)
+    → HasStrata t g duty × IsWithinLimits t g duty
 
 -- What a script comes to whose obligations are all decidable: it is accepted or leaks.
 pub data IsSettled : Outcome → Type 0 where

@@ -1,5 +1,6 @@
 //! Laws over the definitions alone. Each is the contract of a function that does nothing.
 
+ghost use Rattle.sc_verdict.specs.Agree.{OutcomesAgree};
 ghost use Rattle.sc_verdict.specs.Picked.{PickedWitnessesFail};
 ghost use Rattle.sc_verdict.specs.Sound.{AcceptedAreSecure, ClearedDoNotFail};
 ghost use Rattle.sc_verdict.specs.Sound.{DecidableAreSettled, LeaksAreReal};
@@ -31,4 +32,10 @@ pub fn leaks_are_real()
 /// A script whose obligations are stratified and within the limits is accepted or leaks.
 pub fn decidable_are_settled()
     ensures { DecidableAreSettled }
+{}
+
+/// All outcomes of a script say the same of how it stands: it is accepted, or its first obligation
+/// that is not cleared fails or is not decided, or that one is too large.
+pub fn outcomes_agree()
+    ensures { OutcomesAgree }
 {}

@@ -1,0 +1,11 @@
+use Rattle.std.proofs.Common.{[], subst, sym}
+use Rattle.sc_schema.specs.SchemaViews.{script_of}
+use Rattle.sc_formula.specs.Over.{IsOver}
+use Rattle.sc_formula.specs.Trees.{Formula}
+use Rattle.sc_duty.proofs.Speaking.{over_and_closed}
+use Rattle.sc_checker.proofs.obligations.verdict_on.Goals as goal
+
+pub decide-requires-clause-over : goal.decide-requires-clause-over
+decide-requires-clause-over g c =
+    subst (λ (f : Formula). IsOver c.args.signature.now [] f) (sym c.in_ok-id.ensures.formula.1)
+    (over_and_closed (script_of c.args.t.now) c.requires.script c.args.signature.now c.requires.signature c.args.duty c.requires.listed).0

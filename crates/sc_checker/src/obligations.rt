@@ -1,0 +1,134 @@
+//! What one obligation comes to.
+
+ghost use Rattle.std.specs.Prelude.{◌≡◌, ◌≤◌, Contains, IfOk, MatchOption, map};
+ghost use Rattle.std.specs.List.{AllByRecursion};
+ghost use Rattle.sc_data.specs.Values.{last_id};
+ghost use Rattle.sc_schema.specs.Script.{IsScript};
+ghost use Rattle.sc_schema.specs.SchemaViews.{script_of};
+ghost use Rattle.sc_decide.specs.Verdicts.{IsVerdict};
+ghost use Rattle.sc_duty.specs.Duties.{formula_of, obligations_of};
+ghost use Rattle.sc_formula.specs.NormalForm.{normal_form};
+ghost use Rattle.sc_terms.specs.Satisfying.{SatisfiesWith};
+ghost use Rattle.sc_duty.specs.Over.{IsSignatureOf};
+ghost use Rattle.sc_verdict.specs.FailsBy.{FailsBy};
+ghost use Rattle.sc_verdict.specs.Outcomes as spec;
+ghost use Rattle.sc_checker.specs.Views.{outcome_data};
+ghost use Rattle.sc_witness_text.specs.Views.{witness_data};
+
+use crate::formulas::Formulas;
+use crate::outcome::Outcome;
+use crate::witnesses::witness_of;
+use sc_decide::{Verdict, decide};
+use sc_duty::Duty;
+use sc_formula::{Arena, Signature, Structure};
+use sc_schema::{ModelNo, TScript};
+use sc_witness_text::Witness;
+use sqlite_items::Items;
+use std::alloc::{AllocError, Global};
+
+/// The verdict on the formula of an obligation.
+fn verdict_on<F: Formulas>(
+    alloc: Global,
+    formulas: &F,
+    t: &TScript,
+    signature: &Signature,
+    duty: Duty,
+) -> Result<Verdict, AllocError>
+    requires script { IsScript (script_of t.now) }
+    requires signature { IsSignatureOf (script_of t.now).start signature.now }
+    requires listed { Contains (obligations_of (script_of t.now)) duty }
+    ensures { IfOk result (IsVerdict signature.now (formula_of (script_of t.now) duty)) }
+{
+    let mut arena = Arena::new(alloc)?;
+    let id = formulas.formula(alloc, &mut arena, t, duty)?;
+    decide(alloc, &mut arena, id, signature)
+}
+
+/// There are ids for the elements of each sort, since their number has 32 bits.
+fn has_ids(sizes: &[u32])
+    ensures { AllByRecursion (λ n. n ≤ last_id) sizes.now }
+{
+    for size in sizes {
+        let _size = *size;
+    }
+}
+
+/// The witness by which an obligation fails.
+fn found_witness(
+    alloc: Global,
+    t: &TScript,
+    signature: &Signature,
+    duty: Duty,
+    structure: &Structure,
+    picks: &[u32],
+) -> Result<Witness, AllocError>
+    requires script { IsScript (script_of t.now) }
+    requires signature { IsSignatureOf (script_of t.now).start signature.now }
+    requires listed { Contains (obligations_of (script_of t.now)) duty }
+    requires found { SatisfiesWith signature.now
+        (normal_form (formula_of (script_of t.now) duty)) structure.now picks.now }
+    ensures { IfOk result (λ w. FailsBy (script_of t.now) duty (witness_data w)) }
+{
+    has_ids(structure.sizes.as_slice());
+    let w = witness_of(alloc, t, duty, structure, picks)?;
+    let _signature = signature;
+    Ok(w)
+}
+
+/// The model of a sort.
+fn model_of_sort(t: &TScript, sort: u32) -> ModelNo
+    ensures { result ≡ spec.model_of_sort (script_of t.now) sort }
+{
+    match t.start.models.as_slice().get(sort as usize) {
+        Some(info) => info.number,
+        None => 0,
+    }
+}
+
+/// The models of sorts.
+fn models_of_sorts(alloc: Global, t: &TScript, sorts: &[u32]) -> Result<Items<ModelNo>, AllocError>
+    ensures { IfOk result (λ models. models
+        ≡ map (spec.model_of_sort (script_of t.now)) sorts.now) }
+{
+    let mut models = Vec::new(alloc);
+    for sort in sorts {
+        models.push(model_of_sort(t, *sort))?;
+    }
+    Ok(Items::from_vec(models))
+}
+
+/// The models of a cycle of sorts whose first is repeated last, each once.
+fn models_of_cycle(alloc: Global, t: &TScript, cycle: &[u32]) -> Result<Items<ModelNo>, AllocError>
+    ensures { IfOk result (λ models. models ≡ spec.models_of_cycle (script_of t.now) cycle.now) }
+{
+    models_of_sorts(alloc, t, &cycle[..cycle.len().saturating_sub(1)])
+}
+
+/// What an obligation comes to that is not cleared; None where it is cleared.
+pub fn unsettled<F: Formulas>(
+    alloc: Global,
+    formulas: &F,
+    t: &TScript,
+    signature: &Signature,
+    duty: Duty,
+) -> Result<Option<Outcome>, AllocError>
+    requires script { IsScript (script_of t.now) }
+    requires signature { IsSignatureOf (script_of t.now).start signature.now }
+    requires listed { Contains (obligations_of (script_of t.now)) duty }
+    ensures { IfOk result (λ found. MatchOption found
+        (spec.IsCleared (script_of t.now) signature.now duty)
+        (λ outcome. spec.IsUnsettled (script_of t.now) signature.now duty (outcome_data outcome))) }
+{
+    match verdict_on(alloc, formulas, t, signature, duty)? {
+        Verdict::Safe => Ok(None),
+        Verdict::Found(structure, picks) => {
+            let w = found_witness(alloc, t, signature, duty, &structure, picks.as_slice())?;
+            Ok(Some(Outcome::Leak(w)))
+        }
+        Verdict::Unknown(cycle, _) => {
+            let cycle = models_of_cycle(alloc, t, cycle.as_slice())?;
+            Ok(Some(Outcome::Undecided { duty, cycle }))
+        }
+        Verdict::TooLarge(terms, nodes) => Ok(Some(Outcome::TooLarge { duty, terms, nodes })),
+    }
+}

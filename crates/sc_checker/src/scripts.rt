@@ -1,0 +1,38 @@
+//! The check of a whole script.
+
+ghost use Rattle.std.specs.Prelude.{◌≡◌, IfOk};
+ghost use Rattle.sc_schema.specs.Script.{IsScript};
+ghost use Rattle.sc_schema.specs.SchemaViews.{script_of};
+ghost use Rattle.sc_verdict.specs.Outcomes.{IsOutcome};
+ghost use Rattle.sc_checker.specs.Views.{outcome_data};
+
+use crate::formulas::Formulas;
+use crate::obligations::unsettled;
+use crate::outcome::Outcome;
+use sc_numbering::signature_of;
+use sc_obligations::duties;
+use sc_schema::TScript;
+use std::alloc::{AllocError, Global};
+
+/// Checks a script: its obligations are decided one after another, by formulas that are made for
+/// each, up to the first that is not cleared. What one takes of memory is given back before the next.
+pub fn check_script<F: Formulas>(
+    alloc: Global,
+    formulas: &F,
+    t: &TScript,
+) -> Result<Outcome, AllocError>
+    requires { IsScript (script_of t.now) }
+    ensures { IfOk result (λ outcome. IsOutcome (script_of t.now) (outcome_data outcome)) }
+{
+    let signature = signature_of(alloc, &t.start)?;
+    let duties = duties(alloc, t)?;
+    for duty in duties.as_slice() {
+        match unsettled(alloc, formulas, t, &signature, *duty)? {
+            Some(outcome) => return Ok(outcome),
+            None => {}
+        }
+    }
+    Ok(Outcome::Accepted {
+        duties: duties.len() as u64,
+    })
+}
