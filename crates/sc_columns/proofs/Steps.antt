@@ -1,5 +1,5 @@
 -- The steps of loops.
-use Rattle.std.proofs.Common.{◌≡◌, ℕ, zero, suc, ◌+◌, ◌<◌, Bool, true, false, refl, List, [], ◌∷◌, ◌++◌, map, ap, arith, cond, not, Some, slice_get, inl, inr, subst, length, ◌≤◌, take, get_or, sym, ◌∙◌}
+use Rattle.std.proofs.Common.{◌≡◌, ℕ, ◌+◌, ◌<◌, Bool, refl, List, [], ◌∷◌, ◌++◌, map, ap, arith, Some, slice_get, inl, inr, subst, length, ◌≤◌, take, get_or, sym, ◌∙◌}
 use Rattle.std.proofs.lemmas.Bool.{cases_lt}
 use Rattle.std.specs.Prelude.{position, Contains}
 use Rattle.std.specs.List.{range_with_len, position_or_len}

@@ -1,9 +1,7 @@
 -- The assignment of columns.
-use Rattle.std.proofs.Common.{◌≡◌, ℕ, zero, suc, ◌+◌, ◌<◌, Bool, true, false, ◌&&◌, refl, sym, ◌∙◌, List, [], ◌∷◌, ◌++◌, Option, Some, None, length, get_or, map, ap, subst, arith, cond, Contains, slice_get}
-use Rattle.std.specs.Prelude.{option_and_then, unwrap_or, position, ◌==◌, int_lt, pos}
-use Rattle.std.specs.List.{range_with_len}
+use Rattle.std.proofs.Common.{◌≡◌, ℕ, zero, suc, ◌<◌, Bool, true, false, refl, sym, ◌∙◌, List, [], ◌∷◌, ◌++◌, Option, Some, None, length, get_or, map, ap, subst, arith, cond, Contains, slice_get}
+use Rattle.std.specs.Prelude.{unwrap_or, position, ◌==◌, int_lt}
 use Rattle.std.specs.Option.{option_map}
-use Rattle.std.proofs.lemmas.List.Elements.{Contains-get_or}
 use Rattle.std.proofs.lemmas.List.Quantifiers.{position-Some}
 use Rattle.std.proofs.lemmas.Option.{slice_get-get_or}
 use Rattle.std.proofs.lemmas.Bool.{eqb-true}
@@ -12,10 +10,9 @@ use Rattle.sc_terms.specs.GroundTerms.{no_terms}
 use Rattle.sc_terms.proofs.Lists.{Contains-none, Contains-cons_cases}
 use Rattle.sc_formula.specs.declared.node.Node.{Node}
 use Rattle.sc_formula.specs.declared.node.Node.TheVariants as node
-use Rattle.sc_formula.specs.declared.structure.Range.{Range}
 use Rattle.sc_formula.specs.declared.structure.Signature.{Signature}
 use Rattle.sc_formula.specs.declared.structure.SVal.{SVal}
-use Rattle.sc_formula.specs.declared.structure.SVal.TheVariants.{Rec, Flag, Num, Str}
+use Rattle.sc_formula.specs.declared.structure.SVal.TheVariants.{Flag}
 use Rattle.sc_formula.specs.Nodes as formula
 use Rattle.sc_formula.specs.Truth.{are_equal, both_pass, is_raised, number_of}
 use Rattle.sc_formula.proofs.TreeLemmas as shown
@@ -24,20 +21,18 @@ use Rattle.sc_terms.specs.Listing.{is_same_term}
 use Rattle.sc_terms.proofs.Listed.{same_term, same_itself, in_map}
 use Rattle.sc_term_arena.specs.declared.node.TermNode.{TermNode}
 use Rattle.sc_term_arena.specs.declared.node.TermNode.TheVariants.{Constant, Skolem, Field, Empty as NoTerms, Cons}
-use Rattle.sc_term_arena.specs.Nodes.{TermTree, one, some, term_part, trees_of, tree_of, tree_from, term_of, IsOne, kind_at, is_one, ArePlaced, AreOnce}
+use Rattle.sc_term_arena.specs.Nodes.{one, some, term_part, trees_of, tree_of, tree_from, term_of, IsOne, is_one, ArePlaced, AreOnce}
 use Rattle.sc_term_arena.proofs.TreeLemmas.{tree_of-at, length-trees_of}
-use Rattle.sc_ground.specs.Standing.{AreOnes, terms_at}
+use Rattle.sc_ground.specs.Standing.{terms_at}
 use Rattle.sc_ground.proofs.Fewer.{one_number}
-use Rattle.sc_tables.specs.Vocabulary.{told}
-use Rattle.sc_tables.specs.Facts.{Assignment, Noun, term, number, text, Fact, is_fact, noun_value, table_for}
+use Rattle.sc_tables.specs.Facts.{Assignment, is_fact, noun_value, table_for}
 use Rattle.sc_tables.specs.Clauses.{IsTyped}
 use Rattle.sc_tables.specs.Consistent.{range_of, IsOfRange}
 use Rattle.sc_instances.specs.declared.input.Value.{Value}
 use Rattle.sc_instances.specs.declared.input.Value.TheVariants.{Term, Literal}
-use Rattle.sc_instances.specs.GroundAtoms.{GroundValue, named}
-use Rattle.sc_instances.specs.Inputs.{literal_of, value_at}
+use Rattle.sc_instances.specs.Inputs.{literal_of}
 use Rattle.sc_grounding.specs.InputFacts.{noun_of}
-use Rattle.sc_vocabulary.specs.Words.{IsWords, ArePairs, vocabulary_at}
+use Rattle.sc_vocabulary.specs.Words.{ArePairs, vocabulary_at}
 use Rattle.sc_vocabulary.specs.declared.words.PairNode.{PairNode}
 use Rattle.sc_vocabulary.specs.declared.words.Words.{Words}
 use Rattle.sc_clauses.specs.declared.facts.FactNode.{FactNode}
@@ -47,9 +42,9 @@ use Rattle.sc_models.specs.declared.found.Found.{Found}
 use Rattle.sc_models.specs.Found.{IsFound}
 use Rattle.sc_models.proofs.Agreement.{node_at, term_at_node, value_or}
 use Rattle.sc_models.proofs.Lists.{slice_get-range}
-use Rattle.sc_models.proofs.Steps.{position_first, item_at, slice_within, item_there}
+use Rattle.sc_models.proofs.Steps.{position_first, slice_within, item_there}
 use Rattle.sc_columns.specs.declared.columns.Columns.{Columns}
-use Rattle.sc_columns.specs.Columns.{is_tree_of, number_in, is_pair_of, at_or, assignment_by, is_same_pair, value_by, literal_by, noun_by, fact_by, IsNoun, IsFactOf, IsSo, entry_by, related_by, AreFound, IsTypedAt, AreTyped}
+use Rattle.sc_columns.specs.Columns.{is_tree_of, number_in, is_pair_of, at_or, assignment_by, is_same_pair, value_by, literal_by, noun_by, fact_by, IsNoun, IsFactOf, IsSo, entry_by, AreFound, AreTyped}
 use Rattle.sc_columns.proofs.Steps.{position_same}
 
 at_own : {X : Type 0} (xs : List X) (o : Option ℕ) (k : ℕ) (d : X) → o ≡ Some k → at_or xs o d ≡ unwrap_or (slice_get xs k) d

@@ -1,7 +1,6 @@
 -- What was found of numbered terms, pairs and sorts, and the assignment that it stands for.
-use Rattle.std.specs.Prelude.{◌≡◌, ℕ, ◌+◌, ◌<◌, Bool, true, false, ◌&&◌, List, Option, None, Some, cond, map, length, pos, unwrap_or, option_and_then, slice_get, slice_index_or, int_lt, position, ◌==◌, Contains}
+use Rattle.std.specs.Prelude.{◌≡◌, ℕ, ◌+◌, ◌<◌, Bool, false, ◌&&◌, List, Option, None, Some, cond, map, length, pos, unwrap_or, option_and_then, slice_get, int_lt, position, ◌==◌}
 use Rattle.std.specs.List.{range_with_len}
-use Rattle.std.specs.Option.{option_map}
 use Rattle.sc_formula.specs.declared.node.Node.{Node}
 use Rattle.sc_formula.specs.declared.node.Node.TheVariants as node
 use Rattle.sc_formula.specs.declared.structure.Range.{Range}
@@ -13,14 +12,14 @@ use Rattle.sc_terms.specs.GroundTerms.{GroundTerm}
 use Rattle.sc_terms.specs.Listing.{is_same_term}
 use Rattle.sc_term_arena.specs.declared.node.TermNode.{TermNode}
 use Rattle.sc_term_arena.specs.Nodes.{TermTree, one, some, trees_of, term_of, IsOne}
-use Rattle.sc_tables.specs.Facts.{Assignment, Noun, term, number, text, is_fact, table_for}
+use Rattle.sc_tables.specs.Facts.{Assignment, is_fact, table_for}
 use Rattle.sc_tables.specs.Consistent.{range_of, IsOfRange}
 use Rattle.sc_instances.specs.declared.input.Value.{Value}
 use Rattle.sc_instances.specs.declared.input.Value.TheVariants.{Term, Literal}
 use Rattle.sc_vocabulary.specs.declared.words.PairNode.{PairNode}
 use Rattle.sc_clauses.specs.declared.facts.FactNode.{FactNode}
 use Rattle.sc_clauses.specs.declared.facts.FactNode.TheVariants.{There, Same, Below, Raised, Related, Empty}
-use Rattle.sc_clauses.specs.Facts.{fact_at, noun_at}
+use Rattle.sc_clauses.specs.Facts.{fact_at}
 use Rattle.sc_models.specs.declared.found.Found.{Found}
 use Rattle.sc_models.specs.Found.{IsFound}
 use Rattle.sc_columns.specs.declared.columns.Columns.{Columns}

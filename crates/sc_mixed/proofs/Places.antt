@@ -1,10 +1,9 @@
 -- A list by its places.
-use Rattle.std.proofs.Common.{◌≡◌, ℕ, zero, suc, ◌+◌, ◌<◌, Bool, true, false, refl, sym, ◌∙◌, List, [], ◌∷◌, length, get_or, map, ap, subst, arith, rules, ◌++◌}
-use Rattle.std.specs.Prelude.{All, IsTrue, IsSome, Option, Some, None, IfSome}
+use Rattle.std.proofs.Common.{◌≡◌, ℕ, suc, ◌+◌, ◌<◌, Bool, true, false, refl, sym, ◌∙◌, List, [], ◌∷◌, length, get_or, map, ap, subst, arith, ◌++◌}
+use Rattle.std.specs.Prelude.{IsSome, Option, Some, None, IfSome}
 use Rattle.std.specs.List.{range_with_len}
 use Rattle.std.proofs.lemmas.List.FromFn.{map-range_with_len_more}
-use Rattle.sc_procedure.specs.Models.{HasModel}
-use Rattle.sc_solver.specs.Assignment.{IsLawful, value_at, literal_value, meets_clause}
+use Rattle.sc_solver.specs.Assignment.{IsLawful, value_at, literal_value}
 use Rattle.sc_solver.specs.declared.literal.PLit.{PLit}
 use Rattle.sc_mixed.specs.Mixed.{AreValues}
 

@@ -1,5 +1,5 @@
 -- Assignments whose equalities and differences have a model.
-use Rattle.std.specs.Prelude.{◌≡◌, ℕ, ℤ, Bool, List, Option, IsTrue, All, length}
+use Rattle.std.specs.Prelude.{◌≡◌, ℕ, Bool, List, Option, IsTrue, All, length}
 use Rattle.sc_equality.specs.Equality.{is_classes, meets_literal, takes_literal}
 use Rattle.sc_equality.specs.declared.literal.EqualityLit.{EqualityLit}
 use Rattle.sc_order.specs.Difference.{is_assignment, is_literal, meets}

@@ -1,30 +1,26 @@
 -- What was found of numbered terms is what a table has of the terms.
-use Rattle.std.proofs.Common.{◌≡◌, ℕ, zero, suc, ◌+◌, ◌<◌, Bool, true, false, ◌&&◌, refl, sym, ◌∙◌, List, [], ◌∷◌, ◌++◌, Option, Some, None, length, cond, map, ap, subst, arith, slice_get, Contains}
+use Rattle.std.proofs.Common.{◌≡◌, ℕ, zero, suc, ◌<◌, Bool, true, refl, sym, ◌∙◌, List, [], ◌∷◌, Option, Some, None, length, cond, map, ap, arith, slice_get}
 use Rattle.std.specs.Prelude.{option_and_then, unwrap_or, ◌==◌, max, position}
-use Rattle.std.specs.List.{find, filter, flat_map, range_with_len, enumerate_from}
+use Rattle.std.specs.List.{flat_map, range_with_len}
 use Rattle.std.specs.Option.{option_map, option_to_list}
-use Rattle.std.proofs.lemmas.Bool.{eqb-true}
-use Rattle.sc_formula.specs.declared.structure.Range.{Range}
-use Rattle.sc_formula.specs.declared.structure.Range.TheVariants as range
 use Rattle.sc_formula.specs.declared.structure.Signature.{Signature}
 use Rattle.sc_formula.specs.declared.structure.SVal.{SVal}
-use Rattle.sc_formula.specs.declared.structure.SVal.TheVariants.{Rec, Flag, Num, Str}
 use Rattle.sc_formula.specs.Truth.{element_of}
-use Rattle.sc_terms.specs.GroundTerms.{GroundTerm, constant, skolem, field, sort_of, is_number}
+use Rattle.sc_terms.specs.GroundTerms.{sort_of, is_number}
 use Rattle.sc_terms.specs.Listing.{unique}
 use Rattle.sc_term_arena.specs.declared.node.TermNode.{TermNode}
 use Rattle.sc_term_arena.specs.declared.node.TermNode.TheVariants.{Constant, Skolem, Field, Empty, Cons}
-use Rattle.sc_term_arena.specs.Nodes.{TermTree, one, some, term_part, list_part, term_in, list_in, tree_from, trees_of, tree_of, term_of, list_of, IsOne, IsList, kind_at, is_one, ArePlaced}
+use Rattle.sc_term_arena.specs.Nodes.{term_part, tree_from, trees_of, term_of, IsOne, kind_at, is_one, ArePlaced}
 use Rattle.sc_term_arena.proofs.TreeLemmas.{tree_of-at}
 use Rattle.sc_ground.specs.Standing.{AreOnes, terms_at}
 use Rattle.sc_tables.specs.Vocabulary.{Vocabulary}
 use Rattle.sc_tables.specs.Table.{Table}
-use Rattle.sc_tables.specs.Made.{class_of, class_in, classes, made_size, place, element, default, made_value, blank}
+use Rattle.sc_tables.specs.Made.{class_of, class_in, classes, made_size, place, element}
 use Rattle.sc_models.specs.declared.found.Found.{Found}
 use Rattle.sc_vocabulary.specs.declared.words.Words.{Words}
 use Rattle.sc_vocabulary.specs.Words.{vocabulary_at}
 use Rattle.sc_models.specs.Found.{IsFound}
-use Rattle.sc_models.specs.Columns.{class_at, node_sort, sort_at, is_constant, classes_of, place_in, moved_value, blank_value, element_in, size_of_sort, default_at, default_list, class_in_sort, classes_at, class_lists, element_at, element_list, size_list}
+use Rattle.sc_models.specs.Columns.{class_at, node_sort, sort_at, classes_of, place_in, element_in, size_of_sort, class_in_sort, classes_at, class_lists, element_at, element_list, size_list}
 use Rattle.sc_models.proofs.Lists.{range_same, slice_get-range}
 
 -- the node of a number

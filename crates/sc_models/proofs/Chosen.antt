@@ -1,16 +1,14 @@
 -- The elements of the variables that a formula begins with are those that the table chooses.
-use Rattle.std.proofs.Common.{◌≡◌, ℕ, zero, suc, ◌+◌, ◌<◌, Bool, true, false, ◌&&◌, refl, sym, ◌∙◌, List, [], ◌∷◌, ◌++◌, Option, Some, None, length, cond, map, ap, subst, arith, slice_get, Contains}
+use Rattle.std.proofs.Common.{◌≡◌, ℕ, ◌+◌, Bool, true, false, ◌&&◌, refl, sym, ◌∙◌, List, [], ◌∷◌, Option, Some, cond, ap, slice_get, Contains}
 use Rattle.std.specs.Prelude.{option_and_then, unwrap_or, ◌==◌}
 use Rattle.std.specs.List.{find}
-use Rattle.std.specs.Option.{option_map}
 use Rattle.sc_formula.specs.declared.structure.Signature.{Signature}
 use Rattle.sc_formula.specs.Trees.{Formula, yes, no, equal, less, has, flag, present, negation, both, either, exists, forall}
-use Rattle.sc_terms.specs.GroundTerms.{GroundTerm, GroundTerms, constant, skolem, field, no_terms, term_and, sort_of}
 use Rattle.sc_terms.specs.Passing.{Choice}
 use Rattle.sc_terms.specs.Satisfying.{leading_elements}
 use Rattle.sc_term_arena.specs.declared.node.TermNode.{TermNode}
 use Rattle.sc_term_arena.specs.declared.node.TermNode.TheVariants.{Constant, Skolem, Field, Empty, Cons}
-use Rattle.sc_term_arena.specs.Nodes.{term_part, list_part, list_in, tree_from, trees_of, tree_of, term_of, list_of, IsOne, IsList, kind_at, is_one, ArePlaced}
+use Rattle.sc_term_arena.specs.Nodes.{term_part, list_part, tree_from, trees_of, term_of, list_of, IsOne, IsList, is_one, ArePlaced}
 use Rattle.sc_term_arena.proofs.Placement.{parts_placed}
 use Rattle.sc_term_arena.proofs.TreeLemmas.{tree_of-at}
 use Rattle.sc_terms.proofs.Lists.{Contains-head, Contains-tail}

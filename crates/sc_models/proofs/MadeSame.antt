@@ -1,6 +1,6 @@
 -- The structure of what was found is the one that the table makes.
-use Rattle.std.proofs.Common.{◌≡◌, ℕ, zero, suc, ◌+◌, ◌<◌, Bool, true, false, ◌&&◌, refl, sym, ◌∙◌, List, [], ◌∷◌, ◌++◌, Option, Some, None, length, cond, map, ap, subst, arith, slice_get, Contains, get_or}
-use Rattle.std.specs.Prelude.{option_and_then, unwrap_or, ◌==◌, max, position, slice_index_or}
+use Rattle.std.proofs.Common.{◌≡◌, ℕ, zero, suc, ◌+◌, ◌<◌, Bool, true, false, ◌&&◌, refl, sym, ◌∙◌, List, [], ◌∷◌, ◌++◌, Option, Some, None, length, cond, map, ap, arith, slice_get, get_or}
+use Rattle.std.specs.Prelude.{option_and_then, unwrap_or, ◌==◌, position, slice_index_or}
 use Rattle.std.specs.List.{find, filter, flat_map, range_with_len, enumerate_from}
 use Rattle.std.specs.Option.{option_map, option_to_list}
 use Rattle.std.proofs.lemmas.Bool.{eqb-true}
@@ -10,30 +10,27 @@ use Rattle.std.proofs.lemmas.List.Quantifiers.{position-Some}
 use Rattle.sc_formula.specs.declared.structure.Range.{Range}
 use Rattle.sc_formula.specs.declared.structure.Range.TheVariants as range
 use Rattle.sc_formula.specs.declared.structure.FunSig.{FunSig}
-use Rattle.sc_formula.specs.declared.structure.SetSig.{SetSig}
 use Rattle.sc_formula.specs.declared.structure.Signature.{Signature}
 use Rattle.sc_formula.specs.declared.structure.SVal.{SVal}
 use Rattle.sc_formula.specs.declared.structure.SVal.TheVariants.{Rec, Flag, Num, Str}
 use Rattle.sc_formula.specs.Over.{IsFunction}
 use Rattle.sc_formula.specs.Truth.{element_of}
-use Rattle.sc_terms.specs.GroundTerms.{GroundTerm, GroundTerms, constant, skolem, field, no_terms, term_and, sort_of, is_number}
+use Rattle.sc_terms.specs.GroundTerms.{GroundTerm, constant, sort_of, is_number}
 use Rattle.sc_term_arena.specs.declared.node.TermNode.{TermNode}
 use Rattle.sc_term_arena.specs.declared.node.TermNode.TheVariants.{Constant, Skolem, Field, Empty, Cons}
-use Rattle.sc_term_arena.specs.Nodes.{TermTree, one, some, term_part, list_part, tree_from, trees_of, tree_of, term_of, list_of, IsOne, IsList, kind_at, is_one, ArePlaced}
+use Rattle.sc_term_arena.specs.Nodes.{term_part, tree_from, trees_of, term_of, IsOne, is_one, ArePlaced}
 use Rattle.sc_term_arena.proofs.Placement.{parts_placed}
-use Rattle.sc_term_arena.proofs.TreeLemmas.{tree_of-at}
-use Rattle.sc_terms.proofs.Lists.{cond_true, cond_false}
 use Rattle.sc_ground.specs.Standing.{AreOnes, terms_at}
 use Rattle.sc_tables.specs.Vocabulary.{Vocabulary, Pair}
 use Rattle.sc_tables.specs.Table.{Table}
-use Rattle.sc_tables.specs.Made.{class_of, classes, made_size, place, element, default, made_value, blank, is_at, made_entry, made_function, made_relation}
+use Rattle.sc_tables.specs.Made.{classes, made_size, place, element, default, made_value, blank, is_at, made_entry, made_function, made_relation}
 use Rattle.sc_models.specs.declared.found.Found.{Found}
 use Rattle.sc_vocabulary.specs.declared.words.PairNode.{PairNode}
 use Rattle.sc_models.specs.declared.tellers.Teller.{Teller}
 use Rattle.sc_vocabulary.specs.declared.words.Words.{Words}
 use Rattle.sc_vocabulary.specs.Words.{vocabulary_at, pair_at, ArePairs}
 use Rattle.sc_models.specs.Found.{IsFound}
-use Rattle.sc_models.specs.Columns.{class_at, is_constant, classes_of, place_in, moved_value, blank_value, element_in, size_of_sort, tellers_from, tellers_in, tellers_at, told_value, entry_at, row_at, related_in, relation_at, default_at, default_list, row_by, class_lists, element_list}
+use Rattle.sc_models.specs.Columns.{class_at, is_constant, classes_of, moved_value, blank_value, element_in, tellers_from, tellers_in, tellers_at, told_value, entry_at, related_in, relation_at, default_at, default_list, row_by, class_lists, element_list}
 use Rattle.sc_models.proofs.Steps.{no_position}
 use Rattle.sc_models.proofs.Lists.{range_same, slice_get-range, enumerated_same, enumerated_places}
 use Rattle.sc_models.proofs.Agreement.{node_at, term_at_node, value_or, class_same, all_same, size_same, place_same, column_same}

@@ -1,5 +1,5 @@
 -- The steps of loops, and what they end in.
-use Rattle.std.proofs.Common.{◌≡◌, ℕ, ◌<◌, ◌+◌, Bool, true, false, ap, cond, refl, ◌∙◌, List, [], ◌∷◌, ◌++◌, Some, None, Option, length, get_or, map, arith, slice_get, take, zero, suc, append_assoc, sym, append-nil, inl, inr, Contains, subst}
+use Rattle.std.proofs.Common.{◌≡◌, ℕ, ◌<◌, ◌+◌, Bool, true, false, ap, cond, refl, ◌∙◌, List, [], ◌∷◌, ◌++◌, Some, None, length, get_or, map, arith, slice_get, take, zero, suc, append_assoc, sym, append-nil, inl, inr, Contains, subst}
 use Rattle.std.specs.Prelude.{nat_lt}
 use Rattle.std.specs.List.{position, position_or_len, range_with_len, enumerate_from, flat_map, find}
 use Rattle.std.proofs.lemmas.List.FromFn.{map-range_with_len_more}

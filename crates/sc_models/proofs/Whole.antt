@@ -1,10 +1,9 @@
 -- The structure and the elements that are made, for a vocabulary of a formula.
-use Rattle.std.proofs.Common.{◌≡◌, ℕ, zero, suc, ◌<◌, refl, sym, ◌∙◌, List, [], ◌∷◌, ◌++◌, Option, Some, length, map, ap, subst, arith, slice_get, Contains, get_or}
+use Rattle.std.proofs.Common.{◌≡◌, ℕ, zero, suc, ◌<◌, refl, ◌∙◌, List, [], ◌∷◌, ◌++◌, Option, Some, length, ap, subst, arith, slice_get, Contains}
 use Rattle.std.specs.Prelude.{option_and_then, All}
 use Rattle.sc_formula.specs.declared.structure.Range.{Range}
 use Rattle.sc_formula.specs.declared.structure.Range.TheVariants as range
 use Rattle.sc_formula.specs.declared.structure.FunSig.{FunSig}
-use Rattle.sc_formula.specs.declared.structure.SetSig.{SetSig}
 use Rattle.sc_formula.specs.declared.structure.Signature.{Signature}
 use Rattle.sc_formula.specs.declared.structure.Structure.{Structure}
 use Rattle.sc_formula.specs.Over.{IsFunction, IsOver}
@@ -17,10 +16,10 @@ use Rattle.sc_terms.proofs.Recorded.{needed_below}
 use Rattle.sc_terms.proofs.Typed.{all_typed, target_at, target_below, source_below}
 use Rattle.sc_terms.proofs.Witnesses.{variable_part}
 use Rattle.sc_term_arena.specs.declared.node.TermNode.{TermNode}
-use Rattle.sc_term_arena.specs.Nodes.{IsOne, ArePlaced, term_of}
+use Rattle.sc_term_arena.specs.Nodes.{ArePlaced, term_of}
 use Rattle.sc_term_arena.proofs.Placement.{kind_within}
-use Rattle.sc_ground.specs.Standing.{AreOnes, terms_at}
-use Rattle.sc_tables.specs.Vocabulary.{Vocabulary, Pair, IsVocabulary}
+use Rattle.sc_ground.specs.Standing.{AreOnes}
+use Rattle.sc_tables.specs.Vocabulary.{Vocabulary, IsVocabulary}
 use Rattle.sc_tables.specs.Table.{Table}
 use Rattle.sc_tables.specs.Made.{made, made_choice}
 use Rattle.sc_models.specs.declared.found.Found.{Found}

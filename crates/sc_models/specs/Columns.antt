@@ -1,11 +1,10 @@
 -- The structure of a table whose terms are numbers: what each of its parts is, by columns over the numbers.
-use Rattle.std.specs.Prelude.{ℕ, ◌+◌, Bool, true, false, ◌&&◌, List, [], ◌∷◌, ◌++◌, Option, None, Some, cond, length, map, max, pos, option_and_then, unwrap_or, slice_get, slice_index_or, position, ◌==◌}
+use Rattle.std.specs.Prelude.{ℕ, Bool, true, false, ◌&&◌, List, [], ◌∷◌, ◌++◌, Option, None, Some, cond, length, map, max, pos, option_and_then, unwrap_or, slice_get, position, ◌==◌}
 use Rattle.std.specs.List.{find, flat_map, range_with_len, enumerate_from}
 use Rattle.std.specs.Option.{option_map, option_to_list}
 use Rattle.sc_formula.specs.declared.structure.Range.{Range}
 use Rattle.sc_formula.specs.declared.structure.Range.TheVariants as range
 use Rattle.sc_formula.specs.declared.structure.FunSig.{FunSig}
-use Rattle.sc_formula.specs.declared.structure.SetSig.{SetSig}
 use Rattle.sc_formula.specs.declared.structure.Signature.{Signature}
 use Rattle.sc_formula.specs.declared.structure.SVal.{SVal}
 use Rattle.sc_formula.specs.declared.structure.SVal.TheVariants.{Rec, Flag, Num, Str}

@@ -1,22 +1,20 @@
 -- Where a lawful model makes clauses on facts true, their encoding has a lawful assignment.
-use Rattle.std.proofs.Common.{◌≡◌, ℕ, zero, suc, ◌+◌, ◌<◌, Bool, true, false, ◌&&◌, ◌||◌, not, ◌⊎◌, inl, inr, refl, sym, ◌∙◌, List, [], ◌∷◌, ◌++◌, Option, Some, None, IfSome, length, get_or, map, ap, subst, arith, cond, Contains, slice_get, ℤ, ◌+ℤ◌, length-append, append_assoc, IsTrue, All}
-use Rattle.std.specs.Prelude.{◌==◌, int_lt, replicate}
-use Rattle.std.specs.List.{range_with_len, list_any, list_all}
+use Rattle.std.proofs.Common.{◌≡◌, ℕ, zero, suc, ◌+◌, ◌<◌, Bool, true, false, ◌&&◌, ◌||◌, not, ◌⊎◌, inl, inr, refl, sym, ◌∙◌, List, [], ◌∷◌, ◌++◌, Some, None, length, get_or, map, ap, subst, arith, cond, Contains, slice_get, ℤ, ◌+ℤ◌, length-append, append_assoc, IsTrue, All}
+use Rattle.std.specs.Prelude.{int_lt, replicate}
+use Rattle.std.specs.List.{range_with_len, list_all}
 use Rattle.std.specs.Ordering.{int_eq}
 use Rattle.std.proofs.lemmas.Int.{ints}
 use Rattle.std.proofs.lemmas.List.{get_or_append_left}
 use Rattle.std.proofs.lemmas.List.Elements.{All-nil, All-cons}
 use Rattle.std.proofs.lemmas.List.FromFn.{get_or-map-range_with_len, length-map-range_with_len}
-use Rattle.sc_procedure.specs.Models.{HasModel, IsModelOf}
 use Rattle.sc_equality.specs.Equality.{is_classes, meets_literal}
 use Rattle.sc_equality.specs.declared.literal.EqualityLit.{EqualityLit}
 use Rattle.sc_equality.specs.declared.literal.EqualityLit.TheVariants as equality
-use Rattle.sc_order.specs.Difference.{is_assignment, meets, value_of}
+use Rattle.sc_order.specs.Difference.{meets, value_of}
 use Rattle.sc_order.specs.declared.diff.Diff.{Diff}
-use Rattle.sc_pair.specs.Pair.{are_models, meets_own}
+use Rattle.sc_pair.specs.Pair.{meets_own}
 use Rattle.sc_pair.specs.declared.pair.PairLit.{PairLit}
-use Rattle.sc_pair.specs.declared.pair.PairLit.TheVariants.{Left, Right}
-use Rattle.sc_solver.specs.Assignment.{IsLawful as IsLawfulAssignment, literal_value, meets_clause, theory_literals, value_at}
+use Rattle.sc_solver.specs.Assignment.{literal_value, meets_clause, theory_literals, value_at}
 use Rattle.sc_solver.specs.declared.literal.PLit.{PLit}
 use Rattle.sc_mixed.specs.Mixed.{Atom, IsMixed}
 use Rattle.sc_gates.specs.Gates.{literal_value as gate_literal_value}
@@ -25,21 +23,20 @@ use Rattle.sc_gates.specs.declared.gate.Literal.{Literal}
 use Rattle.sc_formula.specs.declared.node.Node.{Node}
 use Rattle.sc_formula.specs.declared.structure.Signature.{Signature}
 use Rattle.sc_term_arena.specs.declared.node.TermNode.{TermNode}
-use Rattle.sc_terms.proofs.Kept.{All-from, list_any-from}
+use Rattle.sc_terms.proofs.Kept.{All-from}
 use Rattle.sc_terms.proofs.Listed.{in_map}
 use Rattle.sc_terms.proofs.Lists.{list_all-Contains, Contains-head, Contains-tail, Contains-none, Contains-cons_cases}
 use Rattle.sc_tables.specs.Facts.{is_fact}
 use Rattle.sc_tables.specs.Models.{Model, IsLawful, assignment_of}
-use Rattle.sc_instances.specs.declared.input.Value.{Value}
 use Rattle.sc_vocabulary.specs.Words.{vocabulary_at}
 use Rattle.sc_vocabulary.specs.declared.words.Words.{Words}
 use Rattle.sc_clauses.specs.declared.facts.FactNode.{FactNode}
 use Rattle.sc_clauses.specs.declared.facts.FactNode.TheVariants.{There, Same, Below, Raised, Related, Empty}
-use Rattle.sc_clauses.specs.Facts.{fact_at, noun_at}
-use Rattle.sc_models.proofs.Steps.{item_at, slice_within}
-use Rattle.sc_search.specs.Encoding.{difference, IsAtomOf, AreAtomsOf, AreAtomsFor, IsHalved, AreLinked, link_clauses, positive, negative, IsNumberSide}
+use Rattle.sc_clauses.specs.Facts.{fact_at}
+use Rattle.sc_models.proofs.Steps.{slice_within}
+use Rattle.sc_search.specs.Encoding.{IsAtomOf, AreAtomsOf, AreAtomsFor, IsHalved, AreLinked, link_clauses, positive, negative}
 use Rattle.sc_search.specs.Problem.{plit_of, HaveValues}
-use Rattle.sc_search.proofs.ModelColumns.{a, class_column, number_column, below_difference, above_difference, same_numbers, lower_numbers, same_met, classes_fit, numbers_fit}
+use Rattle.sc_search.proofs.ModelColumns.{class_column, number_column, below_difference, above_difference, same_numbers, lower_numbers, same_met, numbers_fit}
 
 pub range_split : (i m n : ℕ) → range_with_len i (m + n) ≡ range_with_len i m ++ range_with_len (i + m) n
 range_split i zero n = let none : i + 0 ≡ i = omega arith in let less : 0 + n ≡ n = omega arith in ap (range_with_len i) less ∙ sym (ap (λ k. range_with_len k n) none)

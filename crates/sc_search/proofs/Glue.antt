@@ -1,7 +1,6 @@
 -- What the search finds, as a table.
-use Rattle.std.proofs.Common.{◌≡◌, ℕ, zero, suc, ◌+◌, ◌<◌, Bool, true, false, ◌⊎◌, inl, inr, refl, sym, ◌∙◌, List, [], ◌∷◌, ◌++◌, Option, Some, None, IfSome, length, get_or, map, ap, subst, arith, Contains, slice_get, IsTrue, All}
+use Rattle.std.proofs.Common.{◌≡◌, ℕ, zero, suc, ◌+◌, Bool, false, refl, sym, ◌∙◌, List, [], ◌∷◌, ◌++◌, Some, length, map, ap, subst, Contains, slice_get}
 use Rattle.std.specs.Prelude.{unwrap_or}
-use Rattle.std.specs.List.{list_all}
 use Rattle.std.proofs.lemmas.Option.{slice_get-get_or}
 use Rattle.sc_ast.specs.Words.{IsText}
 use Rattle.sc_formula.specs.NormalForm.{IsNormal}
@@ -10,7 +9,6 @@ use Rattle.sc_formula.specs.Over.{IsOver}
 use Rattle.sc_formula.specs.Trees.{Formula}
 use Rattle.sc_formula.specs.declared.node.Node.{Node}
 use Rattle.sc_formula.specs.declared.structure.Signature.{Signature}
-use Rattle.sc_gates.specs.Clauses.{meets_clause}
 use Rattle.sc_gates.specs.Gates.{ArePlaced as AreGatesPlaced}
 use Rattle.sc_gates.specs.declared.gate.Literal.{Literal}
 use Rattle.sc_terms.specs.GroundTerms.{GroundTerm}
@@ -18,12 +16,11 @@ use Rattle.sc_terms.specs.Passing.{IsSatisfiableOver}
 use Rattle.sc_term_arena.specs.Nodes.{ArePlaced, AreOnce}
 use Rattle.sc_tables.specs.Clauses.{base_clauses, congruence_clauses}
 use Rattle.sc_tables.specs.Facts.{Assignment, Clause, Fact, is_fact, table_for}
-use Rattle.sc_tables.specs.Models.{Model, IsLawful, assignment_of}
 use Rattle.sc_tables.proofs.Assignments.{consistent_from}
 use Rattle.sc_grounding.specs.GroundClauses.{AreGroundClauses, HaveFacts}
 use Rattle.sc_grounding.proofs.Grounded.{grounded, met_tables, met_read}
 use Rattle.sc_vocabulary.specs.Spoken.{IsSpoken}
-use Rattle.sc_vocabulary.specs.Words.{vocabulary_at, IsWords}
+use Rattle.sc_vocabulary.specs.Words.{vocabulary_at}
 use Rattle.sc_vocabulary.specs.declared.spoken.Spoken.{Spoken}
 use Rattle.sc_vocabulary.specs.declared.words.PairNode.{PairNode}
 use Rattle.sc_vocabulary.specs.declared.words.Words.{Words}
@@ -32,13 +29,12 @@ use Rattle.sc_clauses.specs.declared.facts.FactLiteral.{FactLiteral}
 use Rattle.sc_clauses.specs.declared.facts.FactNode.{FactNode}
 use Rattle.sc_clauses.specs.declared.ground.GroundClauses.{GroundClauses}
 use Rattle.sc_models.specs.declared.found.Found.{Found}
-use Rattle.sc_models.proofs.Steps.{slice_within, item_at}
 use Rattle.sc_mixed.specs.declared.mixture.Mixture.{Mixture}
 use Rattle.sc_columns.specs.Columns.{AreFound, AreTyped, IsTypedAt, IsSo, assignment_by}
 use Rattle.sc_columns.specs.declared.columns.Columns.{Columns}
 use Rattle.sc_term_arena.specs.declared.node.TermNode.{TermNode}
 use Rattle.sc_columns.proofs.Told.{so_same, typed_same, found_same}
-use Rattle.sc_search.specs.Problem.{AreSolved, HaveValues, IsNowhere}
+use Rattle.sc_search.specs.Problem.{AreSolved, IsNowhere}
 use Rattle.sc_search.specs.Tabled.{HasColumns, HasTable, IsGroundFor, IsTabled}
 use Rattle.sc_search.specs.declared.tabled.Tabled.{Tabled}
 use Rattle.sc_search.proofs.Encoded.{map-append}

@@ -1,6 +1,5 @@
 -- The halves of equalities of numbers.
-use Rattle.std.proofs.Common.{◌≡◌, ℕ, zero, suc, ◌+◌, ◌<◌, ◌⊎◌, inl, inr, refl, sym, ◌∙◌, List, [], ◌∷◌, ◌++◌, Option, Some, length, get_or, map, ap, subst, arith, Contains, slice_get, take, append_assoc, append-nil, IfSome, add-one}
-use Rattle.std.proofs.lemmas.Option.{slice_get-get_or}
+use Rattle.std.proofs.Common.{◌≡◌, ℕ, zero, suc, ◌+◌, ◌<◌, inl, inr, refl, sym, ◌∙◌, List, [], ◌∷◌, ◌++◌, Some, length, get_or, map, ap, subst, arith, Contains, slice_get, take, append_assoc, append-nil, IfSome}
 use Rattle.sc_formula.specs.declared.node.Node.{Node}
 use Rattle.sc_formula.specs.declared.structure.Signature.{Signature}
 use Rattle.sc_mixed.specs.Mixed.{Atom}
@@ -10,9 +9,9 @@ use Rattle.sc_terms.proofs.Lists.{Contains-none}
 use Rattle.sc_instances.specs.declared.input.Value.{Value}
 use Rattle.sc_vocabulary.specs.declared.words.Words.{Words}
 use Rattle.sc_clauses.specs.declared.facts.FactNode.{FactNode}
-use Rattle.sc_clauses.specs.declared.facts.FactNode.TheVariants.{Same, Below}
+use Rattle.sc_clauses.specs.declared.facts.FactNode.TheVariants.{Below}
 use Rattle.sc_search.specs.declared.halves.Halves.{Halves}
-use Rattle.sc_search.specs.Encoding.{AddsAtoms, AreAtomsFor, AreAtomsOf, AreLinked, AreSameNumbers, IsAtomOf, IsBelowAtom, IsBelowOf, IsElement, IsHalved, IsSameAtom, IsSameOf, IsSide, IsTold, link_clauses}
+use Rattle.sc_search.specs.Encoding.{AddsAtoms, AreAtomsFor, AreAtomsOf, AreLinked, IsAtomOf, IsBelowAtom, IsBelowOf, IsElement, IsHalved, IsSameAtom, IsSameOf, IsSide, IsTold, link_clauses}
 use Rattle.sc_search.specs.declared.sides.Side.{Side}
 use Rattle.sc_search.specs.declared.sides.Side.TheVariants as side
 use Rattle.sc_pair.specs.declared.pair.PairLit.{PairLit}
@@ -22,7 +21,7 @@ use Rattle.sc_term_arena.specs.Nodes.{IsOne, term_of}
 use Rattle.sc_terms.proofs.Listed.{to_map}
 use Rattle.std.specs.Prelude.{None, replicate}
 use Rattle.std.proofs.lemmas.List.Elements.{Contains-append_left, Contains-append_right}
-use Rattle.sc_search.specs.Halving.{GoesOnHalving, HasHalves}
+use Rattle.sc_search.specs.Halving.{GoesOnHalving}
 use Rattle.sc_search.proofs.Encoded.{cases-append}
 
 slice_front : {X : Type 0} (xs ys : List X) (i : ℕ) (x : X) → slice_get xs i ≡ Some x → slice_get (xs ++ ys) i ≡ Some x

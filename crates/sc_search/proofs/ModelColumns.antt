@@ -1,21 +1,15 @@
 -- A lawful model as a model of the decision procedures.
-use Rattle.std.proofs.Common.{◌≡◌, ℕ, zero, suc, ◌+◌, ◌-◌, ◌^◌, ◌<◌, ◌≤◌, Bool, true, false, ◌&&◌, ◌||◌, not, ◌⊎◌, inl, inr, refl, sym, ◌∙◌, List, [], ◌∷◌, ◌++◌, Option, Some, None, length, get_or, map, ap, subst, arith, cond, Contains, slice_get, ℤ, pos, negsuc, neg_ℤ, ◌+ℤ◌, ◌-ℤ◌, ◌≤ℤ◌, length-append, IsTrue, nat_lt}
+use Rattle.std.proofs.Common.{◌≡◌, ℕ, zero, suc, ◌+◌, ◌-◌, ◌^◌, ◌<◌, Bool, true, false, ◌&&◌, ◌||◌, not, ◌⊎◌, inl, inr, refl, sym, ◌∙◌, List, [], ◌∷◌, ◌++◌, Some, length, get_or, map, ap, subst, arith, cond, Contains, slice_get, ℤ, pos, negsuc, neg_ℤ, ◌+ℤ◌, ◌-ℤ◌, ◌≤ℤ◌, length-append, IsTrue, nat_lt}
 use Rattle.std.specs.Prelude.{◌==◌, int_le, int_lt, FitsSigned}
 use Rattle.std.specs.Int.{w64}
 use Rattle.std.specs.List.{range_with_len, list_any, list_all}
 use Rattle.std.specs.Ordering.{int_eq}
-use Rattle.std.proofs.lemmas.Bool.{eqb-true, cases_lt}
+use Rattle.std.proofs.lemmas.Bool.{eqb-true}
 use Rattle.std.proofs.lemmas.Int.{ints}
-use Rattle.std.proofs.lemmas.List.{get_or_append_left, get_or_past}
+use Rattle.std.proofs.lemmas.List.{get_or_append_left}
 use Rattle.std.proofs.lemmas.List.FromFn.{get_or-map-range_with_len, length-map-range_with_len}
-use Rattle.std.proofs.Math.Seq.{get_or-append_seam}
-use Rattle.sc_ast.specs.Words.{IsText}
-use Rattle.sc_equality.specs.Equality.{are_together, is_classes, keeps_apart, meets_literal}
-use Rattle.sc_equality.specs.declared.literal.EqualityLit.{EqualityLit}
-use Rattle.sc_equality.specs.declared.literal.EqualityLit.TheVariants as equality
-use Rattle.sc_order.specs.Difference.{value_of, is_assignment, meets}
-use Rattle.sc_order.specs.Potential.{IsAssignment}
-use Rattle.sc_order.specs.declared.diff.Diff.{Diff}
+use Rattle.sc_equality.specs.Equality.{are_together, is_classes, keeps_apart}
+use Rattle.sc_order.specs.Difference.{value_of, is_assignment}
 use Rattle.sc_order.proofs.ModelLemmas.{test_from_IsAssignment}
 use Rattle.sc_order.proofs.DifferenceLemmas.{le_from_test, test_from_le}
 use Rattle.sc_formula.specs.declared.node.Node.{Node}
@@ -32,8 +26,7 @@ use Rattle.sc_term_arena.specs.declared.node.TermNode.{TermNode}
 use Rattle.sc_term_arena.specs.Nodes.{term_of, IsOne}
 use Rattle.sc_term_arena.proofs.Placement.{kind_within}
 use Rattle.sc_tables.specs.Vocabulary.{Vocabulary, told}
-use Rattle.sc_tables.specs.Consistent.{range_of}
-use Rattle.sc_tables.specs.Facts.{Assignment, Noun, term, number, text, same, below as less, is_fact, noun_value}
+use Rattle.sc_tables.specs.Facts.{Assignment, Noun, term, text, same, below as less, is_fact}
 use Rattle.sc_tables.specs.Models.{Model, IsLawful, IsNumeric, noun_number, assignment_of}
 use Rattle.sc_tables.proofs.Positions.{below}
 use Rattle.sc_tables.proofs.Assigned.{equal_same, same_equal}
@@ -43,8 +36,8 @@ use Rattle.sc_instances.specs.declared.input.Value.TheVariants.{Term}
 use Rattle.sc_vocabulary.specs.Words.{vocabulary_at}
 use Rattle.sc_vocabulary.specs.declared.words.Words.{Words}
 use Rattle.sc_clauses.specs.Facts.{noun_at}
-use Rattle.sc_search.specs.Encoding.{difference, IsTold, IsTextTerm, IsTextLiteral, IsNumberTerm, IsNumberLiteral, IsNumberSide, IsElement, AreElements, AreTexts, IsSameAtom, IsBelowAtom}
-use Rattle.sc_models.proofs.Steps.{item_at, slice_within, item_there}
+use Rattle.sc_search.specs.Encoding.{IsTextTerm, IsTextLiteral, IsNumberSide, AreElements, AreTexts}
+use Rattle.sc_models.proofs.Steps.{slice_within, item_there}
 
 pub same_bools : (a b : Bool) → (a ≡ true → b ≡ true) → (b ≡ true → a ≡ true) → a ≡ b
 same_bools true true h k = refl

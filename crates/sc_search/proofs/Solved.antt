@@ -1,7 +1,7 @@
 -- What the solver's answers say of the clauses.
-use Rattle.std.proofs.Common.{◌≡◌, ℕ, zero, suc, ◌+◌, ◌-◌, ◌<◌, ◌≤◌, Bool, true, false, not, ◌⊎◌, inl, inr, refl, sym, ◌∙◌, List, [], ◌∷◌, ◌++◌, Option, Some, None, Result, Ok, Err, IfOk, IfSome, length, get_or, map, ap, subst, arith, cond, Contains, slice_get, IsTrue, All}
+use Rattle.std.proofs.Common.{◌≡◌, ℕ, zero, suc, ◌+◌, ◌-◌, ◌<◌, Bool, true, false, not, inl, inr, refl, sym, ◌∙◌, List, [], ◌∷◌, ◌++◌, Option, Some, None, Result, Ok, Err, IfOk, IfSome, length, get_or, map, ap, subst, arith, cond, Contains, slice_get, IsTrue, All}
 use Rattle.std.specs.Prelude.{unwrap_or}
-use Rattle.std.specs.List.{list_all, range_with_len}
+use Rattle.std.specs.List.{range_with_len}
 use Rattle.std.proofs.lemmas.Option.{slice_get-get_or}
 use Rattle.sc_equality.specs.Equality.{is_classes}
 use Rattle.sc_solver.specs.Assignment.{literal_value, meets_clause, value_at}
@@ -17,8 +17,6 @@ use Rattle.sc_term_arena.specs.declared.node.TermNode.{TermNode}
 use Rattle.sc_terms.proofs.Kept.{All-Contains, list_all-from}
 use Rattle.sc_terms.proofs.Listed.{in_map, to_map}
 use Rattle.sc_terms.proofs.Lists.{range-within}
-use Rattle.sc_tables.specs.Models.{Model, IsLawful}
-use Rattle.sc_vocabulary.specs.Words.{vocabulary_at}
 use Rattle.sc_vocabulary.specs.declared.words.Words.{Words}
 use Rattle.sc_clauses.specs.declared.facts.FactNode.{FactNode}
 use Rattle.std.proofs.lemmas.List.Elements.{Contains-append_left, Contains-append_right}

@@ -1,5 +1,5 @@
 -- Facts as variables of which some are equalities of terms or differences of numbers.
-use Rattle.std.specs.Prelude.{◌≡◌, ℕ, ℤ, ◌+◌, pos, ◌-ℤ◌, ◌⊎◌, Bool, true, false, List, [], ◌∷◌, ◌++◌, Option, None, Some, IfSome, length, map, replicate, slice_get, Contains}
+use Rattle.std.specs.Prelude.{◌≡◌, ℕ, ℤ, ◌+◌, pos, ◌-ℤ◌, ◌⊎◌, true, false, List, [], ◌∷◌, ◌++◌, None, Some, IfSome, length, replicate, slice_get, Contains}
 use Rattle.sc_equality.specs.declared.literal.EqualityLit.{EqualityLit}
 use Rattle.sc_equality.specs.declared.literal.EqualityLit.TheVariants as equality
 use Rattle.sc_order.specs.declared.diff.Diff.{Diff}
@@ -14,9 +14,9 @@ use Rattle.sc_term_arena.specs.declared.node.TermNode.{TermNode}
 use Rattle.sc_term_arena.specs.Nodes.{term_of, IsOne}
 use Rattle.sc_tables.specs.Vocabulary.{told}
 use Rattle.sc_tables.specs.Consistent.{range_of}
-use Rattle.sc_tables.specs.Facts.{Noun, number, text}
+use Rattle.sc_tables.specs.Facts.{number, text}
 use Rattle.sc_instances.specs.declared.input.Value.{Value}
-use Rattle.sc_instances.specs.declared.input.Value.TheVariants.{Term, Literal}
+use Rattle.sc_instances.specs.declared.input.Value.TheVariants.{Term}
 use Rattle.sc_vocabulary.specs.Words.{vocabulary_at}
 use Rattle.sc_vocabulary.specs.declared.words.Words.{Words}
 use Rattle.sc_clauses.specs.declared.facts.FactNode.{FactNode}

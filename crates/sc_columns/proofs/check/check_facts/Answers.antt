@@ -1,4 +1,4 @@
-use Rattle.std.proofs.Common.{arith, ℕ, ◌+◌, ◌<◌, length, false}
+use Rattle.std.proofs.Common.{arith, ℕ, ◌+◌, false}
 use Rattle.std.specs.Prelude.{slice_get, unwrap_or}
 use Rattle.sc_clauses.specs.declared.facts.FactNode.{FactNode}
 use Rattle.sc_columns.specs.Columns.{IsSo}

@@ -1,6 +1,5 @@
-use Rattle.std.proofs.Common.{◌∙◌, sym, ap, ◌∷◌, [], ◌++◌, false}
+use Rattle.std.proofs.Common.{false}
 use Rattle.std.specs.Prelude.{position}
-use Rattle.std.proofs.lemmas.List.{map_more}
 use Rattle.sc_columns.specs.Columns.{at_or, is_same_pair}
 use Rattle.sc_columns.proofs.Steps.{mapped_more}
 use Rattle.sc_columns.proofs.finding.related_by.Goals as goal

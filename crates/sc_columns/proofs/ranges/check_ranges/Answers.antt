@@ -1,4 +1,4 @@
-use Rattle.std.proofs.Common.{ℕ, subst, get_or, arith, length}
+use Rattle.std.proofs.Common.{ℕ, subst, arith}
 use Rattle.sc_models.proofs.Steps.{item_at}
 use Rattle.sc_columns.specs.Columns.{IsTypedAt}
 use Rattle.sc_columns.proofs.Steps.{so_more, so_within}

@@ -1,4 +1,4 @@
-use Rattle.std.proofs.Common.{arith, refl, ◌∙◌, sym, ap, ◌∷◌, [], ◌++◌, map}
+use Rattle.std.proofs.Common.{arith}
 use Rattle.std.proofs.lemmas.List.FromFn.{map-range_with_len_more}
 use Rattle.sc_models.specs.Columns.{classes_at}
 use Rattle.sc_models.proofs.classes.class_lists.Goals as goal

@@ -1,6 +1,5 @@
-use Rattle.std.proofs.Common.{◌-◌, ◌+◌, ◌≡◌, arith, drop, ap, ◌∙◌, sym, ◌∷◌, [], ◌++◌, cond, get_or}
+use Rattle.std.proofs.Common.{◌-◌, ◌+◌, ◌≡◌, arith, drop, ap, ◌∙◌, sym}
 use Rattle.std.specs.Prelude.{◌==◌, reverse}
-use Rattle.std.specs.List.{list_any}
 use Rattle.sc_terms.specs.Listing.{unique}
 use Rattle.sc_models.proofs.Uniques.{kept_step}
 use Rattle.sc_models.proofs.classes.unique.Goals as goal

@@ -1,6 +1,4 @@
-use Rattle.std.proofs.Common.{◌<◌, ◌+◌, ◌≡◌, ℕ, List, length, false, true, get_or, below_more, sym, ap, subst, arith, ◌∙◌}
-use Rattle.std.specs.Prelude.{slice_get, Some}
-use Rattle.sc_term_arena.specs.declared.node.TermNode.{TermNode}
+use Rattle.std.proofs.Common.{◌<◌, ◌≡◌, ℕ, length, false, get_or, below_more, sym, ap, arith, ◌∙◌}
 use Rattle.sc_term_arena.specs.declared.node.TermNode.TheVariants.{Empty}
 use Rattle.sc_models.specs.Columns.{is_constant}
 use Rattle.sc_models.proofs.Steps.{position_first, position_none, item_at}
