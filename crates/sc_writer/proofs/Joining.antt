@@ -12,7 +12,7 @@ use Rattle.sc_writer.specs.declared.writer.Mode.TheVariants.{Build}
 use Rattle.sc_writer.specs.declared.writer.Writer.{Writer}
 use Rattle.sc_writer.specs.Made.{Keeps, IsCause, Stands, IsMade, MakesFor, Makes, IsPart, IsPaid, IsSet}
 use Rattle.sc_writer.proofs.Putting.{keeps_both, ap2}
-use Rattle.sc_writer.proofs.Paying.{cause_more}
+use Rattle.sc_writer.proofs.Paying.{cause_more, made_stop}
 
 -- a formula that was set where its cost was paid
 pub set_made : (cost : ℕ) (old mid new : Writer) (f : List Node → Formula) (id : ℕ) → IsPaid cost old mid → IsSet mid.arena new.arena (f mid.arena) id
@@ -74,3 +74,12 @@ size-and_if false f g = omega arith
 pub size-exists_if : (sign : Bool) (sort : ℕ) (f : Formula) → size (exists_if sign sort f) ≡ size f + 1
 size-exists_if true sort f = omega arith
 size-exists_if false sort f = omega arith
+
+-- a part that is too large after another one was made
+pub later_stop : (old mid new : Writer) (n k whole : ℕ) (f g : Formula) (a : ℕ) (r : Result ℕ MakeErr) (d e : MakeErr) → IsMade n old mid g a
+    → r ≡ Err d → d ≡ e → n + k ≤ whole → IsCause k mid e → MakesFor whole old r new f
+later_stop old mid new n k whole f g a r d e first is same le h = made_stop (n + k) whole old new f r d e is same le (later n k old mid e first.left h)
+  where
+    later : (n k : ℕ) (old mid : Writer) (e : MakeErr) → old.left ≡ mid.left + n → IsCause k mid e → IsCause (n + k) old e
+    later n k old mid Full left h = omega arith
+    later n k old mid OutOfMemory left h = tt

@@ -1,0 +1,26 @@
+//! The formulas of typed expressions, sets and policies over the structure of a database.
+//!
+//! The value of an expression is walked end by end: what is asked of an end is handed on, so there
+//! is no tree of cases in memory. Variables, terms and what is asked stand on the stack.
+//!
+//! | module | holds |
+//! |---|---|
+//! | `start` | `Start`, the schema of start databases with its numbers |
+//! | `values` | ends, the values of variables, and what is asked |
+//! | `added` | which added field is written out |
+//! | `truths` | whether a value is a truth value |
+//! | `formulas` | the formulas |
+//! | `policies` | those of policies, and their sizes |
+#![tactic(auto)]
+
+mod added;
+mod formulas;
+mod policies;
+mod start;
+mod truths;
+mod values;
+
+pub use formulas::write;
+pub use policies::{MOST_FUEL, allowed, policy_size};
+pub use start::Start;
+pub use values::{End, Goal, Part, Scene, Source, Steps, Who};
