@@ -1,3 +1,2 @@
 pub mod Forms
 pub mod Judged
-pub mod Picks

@@ -1,4 +1,3 @@
-pub mod Leading
 pub mod Public
 pub mod Tried
 pub mod Verdicts

@@ -16,8 +16,3 @@ pub record IsTriedOver (g : Signature) (f : Formula) (terms : List GroundTerm) (
   pub structure : IsStructure g t.structure
   pub passes : Passes g f (Contains terms) t.structure
   pub satisfies : closed ≡ true → IsClosedSet g f (Contains terms) → SatisfiesWith g f t.structure t.picks
-
--- the formula is true with these elements for the `exists` that it begins with
-pub record ArePicks (s : Structure) (f : Formula) (picks : List ℕ) : Type 0 where
-  pub elements : AreElements s (leading_sorts f) picks
-  pub true_there : truth s picks (body_of f) ≡ true

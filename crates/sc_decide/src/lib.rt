@@ -3,13 +3,11 @@
 //! - `verdict`: `Verdict`.
 //! - `trying`: structures over the terms of a formula.
 //! - `stratified`: formulas whose sort graph has no cycle.
-//! - `picking`: the elements with which a formula is true.
 //! - `shallow_terms`: formulas whose sort graph has a cycle.
 //! - `deciding`: [`decide`].
 #![tactic(auto)]
 
 mod deciding;
-mod picking;
 mod shallow_terms;
 mod stratified;
 #[cfg(test)]

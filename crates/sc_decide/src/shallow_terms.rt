@@ -16,11 +16,11 @@ ghost use Rattle.sc_terms.specs.Universe.{IsShallowTerm};
 ghost use Rattle.sc_decide.specs.Tried.{IsTriedOver};
 ghost use Rattle.sc_decide.specs.Verdicts.{IsVerdictOn};
 
-use crate::picking::picks_on;
 use crate::trying::{Tried, try_terms};
 use crate::verdict::Verdict;
 use sc_formula::{Arena, Signature};
 use sc_ground::{Terms, shallow};
+use sc_picks::picks_on;
 use sqlite_items::Items;
 use std::alloc::{AllocError, Global};
 

@@ -31,6 +31,24 @@ chosen-append (Forall c ∷ xs) ys = ap (λ zs. c.element ∷ zs) (chosen-append
 All_push : (P : Frame → Type 0) (xs : List Frame) (y : Frame) → All P xs → P y → All P (xs ++ y ∷ [])
 All_push P xs y h k = search (rules, common_steps)
 
+-- a choice of this element alone
+abbrev pub only : (x body : ℕ) → Frame
+only x body = Exists (record { size = x + 1; element = x; body = body })
+
+nothing_left : (x : ℕ) → (x + 1) - (x + 1) ≡ 0
+nothing_left x = omega arith
+
+or-false : (b : Bool) → b || false ≡ b
+or-false true = refl
+or-false false = refl
+
+pub waits_for_one : (nodes : List Node) (frames : List Frame) (elements : List ℕ) (x body : ℕ) → AreWaiting nodes frames elements → IsFormula nodes body
+    → AreWaiting nodes (frames ++ only x body ∷ []) (elements ++ x ∷ [])
+waits_for_one nodes frames elements x body w f = record {
+  frames_sound = All_push (IsFrame nodes) frames (only x body) w.frames_sound (f, omega arith);
+  in_step = ap (λ (xs : List ℕ). xs ++ x ∷ []) w.in_step ∙ sym (chosen-append frames (only x body ∷ []));
+}
+
 more_one : (k c : ℕ) → (k + 1) * c ≡ k * c + c
 more_one k c = omega arith
 
@@ -48,6 +66,18 @@ module _ (s : Structure) (nodes : List Node) where
       let rest : Bool = list_all (λ x. truth s (env ++ x ∷ []) (formula_of nodes c.body)) (elements_from c.size (c.element + 1)) in
       ap (λ v. v && rest) (outcome-append (env ++ c.element ∷ []) xs ys b
       ∙ ap (λ e. outcome s nodes (env ++ c.element ∷ []) xs (outcome s nodes e ys b)) (append_assoc env (c.element ∷ []) (chosen xs)))
+
+  -- a choice that has no other element changes nothing
+  no_other : (x body : ℕ) (env : List ℕ) (b : Bool) → outcome s nodes env (only x body ∷ []) b ≡ b
+  no_other x body env b =
+      let rest : ℕ → Bool = λ n. list_any (λ y. truth s (env ++ y ∷ []) (formula_of nodes body)) (range_with_len (x + 1) n) in
+      let none : rest ((x + 1) - (x + 1)) ≡ false = ap rest (nothing_left x) in
+      ap (λ v. b || v) none ∙ or-false b
+
+  pub only_kept : (frames : List Frame) (x body : ℕ) → ((b : Bool) → outcome s nodes [] frames b ≡ b)
+      → (b : Bool) → outcome s nodes [] (frames ++ only x body ∷ []) b ≡ b
+  only_kept frames x body same b =
+      outcome-append [] frames (only x body ∷ []) b ∙ (same (outcome s nodes (chosen frames) (only x body ∷ []) b) ∙ no_other x body (chosen frames) b)
 
   -- nothing more waits
   pub move_same : (frames : List Frame) (elements : List ℕ) (value : Bool) (steps : ℕ) (next : Step) → AreWaiting nodes frames elements → IsSound nodes next

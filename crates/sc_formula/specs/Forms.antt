@@ -4,7 +4,6 @@ use Rattle.sc_formula.specs.declared.node.Node.{Node}
 use Rattle.sc_formula.specs.declared.node.Node.TheVariants.{Bound, Num, Str, App, Yes, No, Eq, Less, Has, Flag, Present, Not, And, Or, Exists, Forall}
 use Rattle.sc_formula.specs.declared.marks.Wanted.{Wanted}
 use Rattle.sc_formula.specs.declared.normal_form.Forms.{Forms}
-use Rattle.sc_formula.specs.Trees.{Formula}
 use Rattle.sc_formula.specs.Nodes.{IsFormula, IsPlaced, formula_of, StandsFor}
 use Rattle.sc_formula.specs.Added.{IsAdded}
 use Rattle.sc_formula.specs.NormalForm.{signed_form}

@@ -5,7 +5,7 @@ ghost use Rattle.std.specs.Prelude.{length, take};
 ghost use Rattle.sc_formula.specs.Nodes.{IsFormula, IsPlaced, formula_of, formula_part, tree_from};
 ghost use Rattle.sc_formula.specs.Nodes.{trees_of};
 ghost use Rattle.sc_formula.specs.Truth.{truth, size_of};
-ghost use Rattle.sc_formula.specs.Evaluation.{AreWaiting, IsMove, IsPlain, HasElement};
+ghost use Rattle.sc_formula.specs.Evaluation.{AreWaiting, IsMove, IsPlain, HasElement, outcome};
 ghost use Rattle.sc_formula.specs.Evaluation.{IsTrialExists, IsTrialForall, IsLeft, cost};
 
 use crate::arena::Arena;
@@ -242,6 +242,45 @@ fn first_choice(structure: &Structure, sort: u32, body: u32) -> Choice
     }
 }
 
+/// The truth of what waits for a formula.
+fn evaluate(
+    alloc: Global,
+    structure: &Structure,
+    arena: &Arena,
+    waiting: &mut Waiting,
+    id: u32,
+) -> Result<bool, AllocError>
+    requires formula { IsFormula arena.now id }
+    requires waiting { AreWaiting arena.now waiting.old.frames.items waiting.old.elements.items }
+    ensures { IfOk result (λ answer. answer
+        ≡ outcome structure.now arena.now [] waiting.old.frames.items
+        (truth structure.now waiting.old.elements.items (formula_of arena.now id))) }
+{
+    let mut step = Step::Seek(id);
+    'steps: loop {
+        match step {
+            Step::Seek(id) => step = seek(alloc, structure, arena, &mut *waiting, id)?,
+            Step::Found(found) => match waiting.frames.pop() {
+                None => return Ok(found),
+                Some(frame) => step = leave(&mut *waiting, frame, found)?,
+            },
+        }
+    }
+}
+
+/// An element that is the last of those that a formula is tried at.
+fn only_choice(element: u32, body: u32) -> Result<Choice, AllocError>
+    ensures { IfOk result (λ choice. choice
+        ≡ record { size = element + 1; element = element; body = body }) }
+{
+    let size = element.checked_add(1).ok_or(AllocError)?;
+    Ok(Choice {
+        size,
+        element,
+        body,
+    })
+}
+
 /// Whether a formula is true on a structure. Variables without a quantifier have no value.
 ///
 /// A quantifier stops at the first element that decides.
@@ -254,18 +293,27 @@ pub fn holds(
     requires { IsFormula arena.now id }
     ensures { IfOk result (λ answer. answer ≡ truth structure.now [] (formula_of arena.now id)) }
 {
+    holds_at(alloc, structure, arena, id, &[])
+}
+
+/// Whether a formula is true on a structure with these elements for its outermost variables.
+pub fn holds_at(
+    alloc: Global,
+    structure: &Structure,
+    arena: &Arena,
+    id: u32,
+    elements: &[u32],
+) -> Result<bool, AllocError>
+    requires { IsFormula arena.now id }
+    ensures { IfOk result (λ answer. answer
+        ≡ truth structure.now elements.now (formula_of arena.now id)) }
+{
     let mut waiting = Waiting {
         frames: Vec::new(alloc),
         elements: Vec::new(alloc),
     };
-    let mut step = Step::Seek(id);
-    'steps: loop {
-        match step {
-            Step::Seek(id) => step = seek(alloc, structure, arena, &mut waiting, id)?,
-            Step::Found(found) => match waiting.frames.pop() {
-                None => return Ok(found),
-                Some(frame) => step = leave(&mut waiting, frame, found)?,
-            },
-        }
+    for element in elements {
+        waiting.push_choice(Frame::Exists(only_choice(*element, id)?), *element)?;
     }
+    evaluate(alloc, structure, arena, &mut waiting, id)
 }

@@ -5,8 +5,8 @@
 //! - `arena`: `Arena`, which numbers nodes and shares equal ones.
 //! - `makers`: the calls of `Arena` that add one node each.
 //! - `normal_form`: [`nnf`], with `marks`: which normal forms are wanted.
-//! - `evaluation`: [`holds`], with `atom`, `term` and `value`: what atoms and terms are on a
-//!   structure.
+//! - `evaluation`: [`holds`], [`holds_at`], with `atom`, `term` and `value`: what atoms and terms are
+//!   on a structure.
 #![tactic(auto)]
 
 mod arena;
@@ -21,7 +21,7 @@ mod term;
 mod value;
 
 pub use arena::Arena;
-pub use evaluation::holds;
+pub use evaluation::{holds, holds_at};
 pub use node::Node;
 pub use normal_form::nnf;
 pub use structure::{FunSig, Range, SVal, SetSig, Signature, Structure};

@@ -1,7 +1,7 @@
 use Rattle.std.proofs.Common.{Option, List, ℕ, subst}
 use Rattle.std.specs.Prelude.{IfSome}
 use Rattle.sc_formula.specs.Nodes.{formula_of}
-use Rattle.sc_decide.specs.Tried.{ArePicks}
+use Rattle.sc_picks.specs.Picks.{ArePicks}
 use Rattle.sc_decide.proofs.Judged.{shallow_found, shallow_tried}
 use Rattle.sc_decide.proofs.shallow_terms.judged.Goals as goal
 

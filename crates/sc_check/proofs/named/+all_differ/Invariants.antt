@@ -1,5 +1,0 @@
-use Rattle.std.proofs.Common.{length}
-use Rattle.sc_check.proofs.named.+all_differ.Given as goal
-
-abbrev pub decreases-all_differ : goal.decreases-all_differ
-decreases-all_differ g l = length l.items.now
