@@ -1,8 +1,9 @@
 -- What the trees of the code stand for, form by form.
-use Rattle.std.proofs.Common.{◌≡◌, ℕ, ℤ, Bool, List, ap, sym, ◌∙◌}
+use Rattle.std.proofs.Common.{◌≡◌, ℕ, ℤ, Bool, List, map, ap, sym, ◌∙◌}
 use Rattle.sc_tree.specs.declared.exprs.CmpOp.{CmpOp}
 use Rattle.sc_tree.specs.declared.exprs.FilterOp.{FilterOp}
 use Rattle.sc_schema.specs.declared.trees.TItem.TheVariants as it
+use Rattle.sc_schema.specs.declared.trees.TFilter.{TFilter}
 use Rattle.sc_schema.specs.declared.trees.TFilter.TheVariants as fi
 use Rattle.sc_schema.specs.declared.trees.TExpr.{TExpr}
 use Rattle.sc_schema.specs.declared.trees.TExpr.TheVariants as ex
@@ -10,8 +11,8 @@ use Rattle.sc_schema.specs.declared.trees.TExpr.TheOpen.{TExpr-F, TSet-F, TItem-
 use Rattle.sc_schema.specs.declared.trees.TExpr.TheFolds.{fold-roll-TExpr, fold-roll-TSet, fold-roll-TItem, fold-roll-TFilter}
 use Rattle.sc_schema.specs.declared.trees.TSet.{TSet}
 use Rattle.sc_schema.specs.declared.trees.TSet.TheVariants as st
-use Rattle.sc_schema.specs.Trees.{Expr, SetExpr, flag, num, str, var, nothing, just, get, equal, iff, less, within, negation, both, either, if_expr, match_expr, everyone, nobody, union, minus, path, mapped, flat_mapped, if_set, match_set, static_item, record_item, filter_and}
-use Rattle.sc_schema.specs.Views.{ItemsMore, FiltersMore, expr_step, item_step, filter_step, set_step, expr_of, set_of, item_of, filter_of}
+use Rattle.sc_schema.specs.Trees.{Expr, SetExpr, flag, num, str, var, nothing, just, get, equal, iff, less, within, negation, both, either, if_expr, match_expr, everyone, nobody, union, minus, find, path, mapped, flat_mapped, if_set, match_set, static_item, record_item, filter_and}
+use Rattle.sc_schema.specs.Views.{ItemsMore, FiltersMore, expr_step, item_step, filter_step, set_step, expr_of, set_of, item_of, filter_of, filters_of}
 
 pub Flag_is : (b : Bool) → expr_of (ex.Flag b) ≡ flag b
 Flag_is b =
@@ -112,6 +113,10 @@ IfS_set c a b =
 pub MatchS_set : (e : TExpr) (a : TSet) (name : List ℕ) (c : TSet) → set_of (st.MatchS e a name c) ≡ match_set (expr_of e) (set_of a) name (set_of c)
 MatchS_set e a name c =
     ap set_of (sym (st.rolls-MatchS e a name c)) ∙ fold-roll-TSet Expr FiltersMore ItemsMore SetExpr expr_step filter_step item_step set_step (TSet-F.MatchS e a name c)
+
+pub Find_set : (m : ℕ) (filters : List TFilter) → set_of (st.Find m filters) ≡ find m (filters_of (map filter_of filters))
+Find_set m filters =
+    ap set_of (sym (st.rolls-Find m filters)) ∙ fold-roll-TSet Expr FiltersMore ItemsMore SetExpr expr_step filter_step item_step set_step (TSet-F.Find m filters)
 
 -- an item, and a filter, in front of others
 pub Static_item : (n : ℕ) → item_of (it.Static n) ≡ static_item n

@@ -1,6 +1,9 @@
 pub mod Asked
+pub mod Costs
 pub mod Forms
 pub mod Lists
+pub mod Reaching
+pub mod Standing
 pub mod Types
 pub mod Walks
 pub mod Written

@@ -1,2 +1,4 @@
+pub mod Places
 pub mod Public
+pub mod Spending
 pub mod Values

@@ -1,16 +1,17 @@
 -- What the values of the code stand for, and what is asked of them.
-use Rattle.std.specs.Prelude.{◌≡◌, ℕ, suc, ◌+◌, Bool, not, List, [], ◌∷◌, ◌++◌, map, take, Option, None, Some, if◌then◌else◌}
+use Rattle.std.specs.Prelude.{◌≡◌, ℕ, suc, ◌+◌, Bool, true, not, List, [], ◌∷◌, ◌++◌, map, take, Option, None, Some, if◌then◌else◌}
 use Rattle.sc_schema.specs.Schema.{Schema}
 use Rattle.sc_schema.specs.SchemaViews.{added_of, schema_of}
 use Rattle.sc_schema.specs.Views.{expr_of, set_of}
 use Rattle.sc_formula.specs.Trees as tree
 use Rattle.sc_schema.specs.Trees.{Expr, SetExpr}
 use Rattle.sc_duty.specs.Structures.{sort_of, function_of}
-use Rattle.sc_duty.specs.Sizes.{size}
+use Rattle.sc_duty.specs.Sizes.{size, row}
 use Rattle.sc_duty.specs.Cases.{Condition, Cases, at_term, held, truth, among, none, some, choice, continued, at_ends, of_term, at_terms, of_option, chosen, atom, constant, and_if, exists_if, condition_of, has_term, end_holds, end_has, is_truth}
 use Rattle.sc_duty.specs.Formulas as asked
 use Rattle.sc_duty.specs.Formulas.{Written, written_out, field_cases, cases_of, is_in, of_model, next_variable}
 use Rattle.sc_writer.specs.Terms.{term_data}
+use Rattle.sc_builder.specs.Places.{use_data, taken_data}
 use Rattle.sc_builder.specs.declared.values.Who.TheVariants as who
 use Rattle.sc_builder.specs.declared.values.Who.{Who}
 use Rattle.sc_builder.specs.declared.values.End.{End, Truth', Among', Some'}
@@ -35,6 +36,16 @@ who_data (who.EachKind t) = asked.of_each_kind (term_data t.now)
 abbrev pub upto_of : Scene → ℕ
 upto_of (at_start n) = n
 upto_of (Inner' p outer q end) = upto_of outer
+
+-- a formula of the size that the value at an end counts as
+abbrev pub end_formula : Schema → ℕ → Cases → tree.Formula
+end_formula s above (at_term t) = tree.equal row t
+end_formula s above (held m f t) = tree.equal row (tree.app (function_of s m f) t)
+end_formula s above (truth c) = tree.exists 0 (c true above)
+end_formula s above (among members) = tree.yes
+end_formula s above none = tree.yes
+end_formula s above (some v) = end_formula s above v
+end_formula s above (choice c a b) = tree.yes
 
 module _ (c : Start) where
   -- the schema of start databases
@@ -78,6 +89,15 @@ module _ (c : Start) where
   steps_data (Just' scene e p next) v =
       steps_data next (if is_truth schema_in v then some (truth (condition_of schema_in (cases_of schema_in (written_in scene.now) (scene_data scene.now) (expr_of e.now)))) else some v)
 
+  -- the formula of a part
+  abbrev pub part_data : ℕ → Part → tree.Formula
+  part_data above (part.Holds source sign) = condition_of schema_in (source_data source.now) sign above
+  part_data above (part.Member scene set who sign) =
+      is_in schema_in (written_in scene.now) (scene_data scene.now) (set_of set.now) (who_data who.now) sign above
+  part_data above (part.Present sign m f t) = atom sign (tree.present (function_of schema_in m f) (term_data t.now))
+  part_data above (part.Reach scene used y) =
+      use_data schema_in (written_in scene.now) (term_data y.now) (scene_data scene.now) used.now above
+
   -- what is asked of a term at an end
   abbrev pub term_goal : Goal → ℕ → tree.Term → tree.Formula
   term_goal (goal.Holds sign) above t = tree.no
@@ -91,6 +111,8 @@ module _ (c : Start) where
   term_goal (goal.Is sign m q) above t = of_model m (who_data q.now) (λ u sign above. atom sign (tree.equal u t)) sign above
   term_goal (goal.In sign w) above t = has_term schema_in (source_data w.now) t sign above
   term_goal (goal.Chosen sign scene a c q) above t = tree.no
+  term_goal (goal.Taken sign scene used y) above t = tree.no
+  term_goal goal.Cost above t = tree.no
 
   abbrev pub goal_data : Goal → ℕ → Cases → tree.Formula
   goal_data (goal.Holds sign) above v = end_holds schema_in sign above v
@@ -105,6 +127,9 @@ module _ (c : Start) where
   goal_data (goal.Chosen sign scene a c q) above v =
       of_option schema_in (chosen above) (is_in schema_in (written_in scene.now) (scene_data scene.now) (set_of a.now) (who_data q.now) sign above)
       (λ x. is_in schema_in (written_in scene.now) (scene_data scene.now ++ x ∷ []) (set_of c.now) (who_data q.now) sign above) v
+  goal_data (goal.Taken sign scene used y) above v =
+      taken_data schema_in (written_in scene.now) (term_data y.now) (scene_data scene.now) sign used.now above v
+  goal_data goal.Cost above v = end_formula schema_in above v
 
   -- the formula that asks so of each end of a value after the steps
   abbrev pub asked_of : ℕ → Steps → Goal → Cases → tree.Formula
@@ -133,11 +158,3 @@ module _ (s : Schema) (written : Written) (env : List Cases) where
   flat_formula set n body q sign above =
       exists_if sign (sort_of s n) (and_if sign (is_in s written env set (asked.record_at n (next_variable s written n above)) sign (suc above))
       (is_in s written (env ++ at_term (next_variable s written n above) ∷ []) body q sign (suc above)))
-
--- the formula of a part
-module _ (c : Start) where
-  abbrev pub part_data : ℕ → Part → tree.Formula
-  part_data above (part.Holds source sign) = condition_of (schema_in c) (source_data c source.now) sign above
-  part_data above (part.Member scene set who sign) =
-      is_in (schema_in c) (written_in c scene.now) (scene_data c scene.now) (set_of set.now) (who_data who.now) sign above
-  part_data above (part.Present sign m f t) = atom sign (tree.present (function_of (schema_in c) m f) (term_data t.now))

@@ -19,6 +19,7 @@ ghost use Rattle.sc_builder.specs.Values.{who_data, steps_data, goal_data, term_
 ghost use Rattle.sc_builder.specs.Values.{part_data, rest_cost, mapped_formula, flat_formula};
 
 use crate::added::{init_at, upto_of, value_at};
+use crate::reaches::{end_cost, reach, taken};
 use crate::start::Start;
 use crate::truths::{is_truth_at, is_truth_end};
 use crate::values::{
@@ -48,12 +49,13 @@ pub fn write(
             member(w, start, &**scene, &**set, &**who, *sign, above, fuel)
         }
         Part::Present(sign, m, f, t) => w.present(*sign, start.function_of(*m, *f), &**t),
+        Part::Reach(scene, used, y) => { reach(w, start, &**scene, &**used, &**y, above, fuel) }
     }
 }
 
 /// Writes that both parts hold; where the sign is not, that one of them does.
 #[cycle(formulas)]
-fn join(
+pub(crate) fn join(
     w: &mut Writer,
     start: &Start<'_>,
     sign: bool,
@@ -146,7 +148,7 @@ fn choose_ask(
 
 /// Asks of each end of a value, after the steps.
 #[cycle(formulas)]
-fn ask(
+pub(crate) fn ask(
     w: &mut Writer,
     start: &Start<'_>,
     source: &Source<'_>,
@@ -169,7 +171,7 @@ fn ask(
 
 /// Asks of each end of an expression, after the steps.
 #[cycle(formulas)]
-fn walk(
+pub(crate) fn walk(
     w: &mut Writer,
     start: &Start<'_>,
     scene: &Scene<'_>,
@@ -459,6 +461,10 @@ fn finish(
                 w, start, &**scene, &**a, &**c, &**who, *sign, &*end, above, fuel,
             )
         }
+        Goal::Taken(sign, scene, used, y) => {
+            taken(w, start, &*end, *sign, &**scene, &**used, &**y, above, fuel)
+        }
+        Goal::Cost => end_cost(w, start, &*end, above, fuel),
         Goal::Equal(..)
         | Goal::Below(..)
         | Goal::EqualTo(..)
@@ -595,7 +601,8 @@ fn at_term(
             above,
             fuel,
         ),
-        Goal::Holds(_) | Goal::Has(..) | Goal::Chosen(..) => w.constant(false),
+        Goal::Holds(_) | Goal::Has(..) | Goal::Chosen(..) | Goal::Taken(..) | Goal::Cost =>
+            w.constant(false),
     }
 }
 
@@ -671,7 +678,7 @@ fn holds(
 
 /// Writes whether the truth value of an expression is as the sign says.
 #[cycle(formulas)]
-fn condition(
+pub(crate) fn condition(
     w: &mut Writer,
     start: &Start<'_>,
     scene: &Scene<'_>,

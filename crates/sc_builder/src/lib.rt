@@ -9,18 +9,27 @@
 //! | `values` | ends, the values of variables, and what is asked |
 //! | `added` | which added field is written out |
 //! | `truths` | whether a value is a truth value |
+//! | `counts` | how many uses of fields there are |
+//! | `places` | where a use of a field stands |
 //! | `formulas` | the formulas |
+//! | `reaches` | those of uses of fields |
 //! | `policies` | those of policies, and their sizes |
+//! | `inits` | those of the uses of initialisers, and sizes of initialisers |
 #![tactic(auto)]
 
 mod added;
+mod counts;
 mod formulas;
+mod inits;
+mod places;
 mod policies;
+mod reaches;
 mod start;
 mod truths;
 mod values;
 
 pub use formulas::write;
+pub use inits::{init_size, reached};
 pub use policies::{MOST_FUEL, allowed, policy_size};
 pub use start::Start;
-pub use values::{End, Goal, Part, Scene, Source, Steps, Who};
+pub use values::{End, Goal, Part, Scene, Source, Steps, Use, Who};

@@ -22,7 +22,7 @@ use std::alloc::{AllocError, Global};
 pub const MOST_FUEL: u32 = 20_000;
 
 /// The size at which sizes stay.
-const MOST_SIZE: u64 = 1_000_000;
+pub(crate) const MOST_SIZE: u64 = 1_000_000;
 
 /// Writes whether a policy allows who is asked about its right on the record that a term is, where
 /// so many added fields are written out; where the sign is not, that it does not.

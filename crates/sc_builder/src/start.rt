@@ -14,6 +14,7 @@ use sc_schema::{FieldInfo, FieldNo, ModelInfo, ModelNo, Schema, TBase, TInit, TT
 use std::rc::Rc;
 
 /// A schema with its numbers, and the fields that a script added to it.
+#[derive(Drop)]
 pub struct Start<'a> {
     /// The schema.
     pub schema: &'a Schema,

@@ -93,6 +93,18 @@ pub enum Goal<'a> {
     In(bool, &'a Source<'a>),
     /// Whether who is asked about is in the set that is chosen by the option at the end.
     Chosen(bool, &'a Scene<'a>, &'a TSet, &'a TSet, &'a Who<'a>),
+    /// Whether the option at the end has a value is as the sign says, and the use, where such a
+    /// value is that of one more variable, reads its field of the record that the term is.
+    Taken(bool, &'a Scene<'a>, &'a Use<'a>, &'a Term<'a>),
+    /// A formula of the size that the value at the end counts as.
+    Cost,
+}
+
+/// A use of a field, by its number in an expression or in a set, counted from 0.
+#[derive(Clone, Copy)]
+pub enum Use<'a> {
+    InExpr(&'a TExpr, usize),
+    InSet(&'a TSet, usize),
 }
 
 /// A part of a formula that is still to be written.
@@ -104,6 +116,8 @@ pub enum Part<'a> {
     Member(&'a Scene<'a>, &'a TSet, &'a Who<'a>, bool),
     /// Whether a field has a value at a term.
     Present(bool, ModelNo, FieldNo, &'a Term<'a>),
+    /// That a use reads its field of the record that the term is.
+    Reach(&'a Scene<'a>, &'a Use<'a>, &'a Term<'a>),
 }
 
 /// One step deeper into a walk.
