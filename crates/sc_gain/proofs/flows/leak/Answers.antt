@@ -1,0 +1,20 @@
+use Rattle.std.proofs.Common.{◌∙◌, ap}
+use Rattle.sc_schema.specs.SchemaViews.{script_of}
+use Rattle.sc_schema.specs.Views.{init_of}
+use Rattle.sc_formula.specs.Trees.{bound, exists}
+use Rattle.sc_duty.specs.Structures.{sort_of}
+use Rattle.sc_obligations.specs.Uses.{use_data}
+use Rattle.sc_gain.specs.Parts.{leaked_to_some}
+use Rattle.sc_gain.proofs.Joining.{part_written, exists_written}
+use Rattle.sc_gain.proofs.flows.leak.Goals as goal
+
+pub exists-requires : goal.exists-requires
+exists-requires c = part_written _ _ _ _ c.in_ok-id.ensures
+
+pub returns : goal.returns
+returns c =
+    let t = script_of c.args.of.now.script.now in
+    let s = c.args.spot.now in
+    exists_written _ _ _ _ _ _ _ _
+    (ap (λ k. exists k (leaked_to_some t s.duty (init_of s.init.now) s.number (use_data s.at) (bound k 0))) (c.sort_of-sort.ensures ∙ ap (sort_of t.start) c.model_of_target.ensures))
+    c.in_ok-id.ensures c.exists.ensures

@@ -1,0 +1,1 @@
+-- The words of this crate's public contracts are those of sc_duty, sc_schema and sc_formula.

@@ -1,0 +1,187 @@
+//! The formula of an obligation against a leak.
+
+ghost use Rattle.std.specs.Prelude.{◌≡◌, ◌≤◌, ◌*◌, IfOk, Some, length};
+ghost use Rattle.sc_duty.specs.Duties.{flow_formula_of, leak_formula};
+ghost use Rattle.sc_formula.specs.Nodes.{StandsFor};
+ghost use Rattle.sc_schema.specs.SchemaViews.{script_of};
+ghost use Rattle.sc_schema.specs.Views.{init_of};
+ghost use Rattle.sc_obligations.specs.Uses.{use_data};
+ghost use Rattle.sc_writer.specs.Terms.{term_data};
+ghost use Rattle.sc_builder.specs.Values.{who_data};
+ghost use Rattle.sc_gain.specs.Parts as part;
+ghost use Rattle.sc_gain.specs.Written.{IsWritten};
+
+use crate::arenas::{put_back, writer_over};
+use crate::gains::model_of_target;
+use crate::numbered::Numbered;
+use crate::rights::right_at;
+use crate::uses::{init_of_duty, reached_at, use_at};
+use sc_builder::Who;
+use sc_duty::Duty;
+use sc_formula::Arena;
+use sc_numbering::Numbering;
+use sc_obligations::Use;
+use sc_schema::{Kind, Right, TInit, TScript, Target};
+use sc_writer::{MakeErr, Term, Writer};
+use std::alloc::{AllocError, Global};
+
+/// The use of a field that an obligation against a leak is about.
+#[derive(Clone, Copy)]
+struct Spot<'a> {
+    duty: Duty,
+    /// The initialiser of the field that the command adds.
+    init: &'a TInit,
+    /// The number of the use in the initialiser, from 0.
+    number: usize,
+    /// The field that is used.
+    at: Use,
+}
+
+/// Writes that the use reads its field of the record that `source` is, where the initialiser is
+/// taken at the other one, and that who is asked about may not read it there.
+fn denied(
+    w: &mut Writer,
+    of: &Numbered<'_>,
+    spot: &Spot<'_>,
+    row: &Term<'_>,
+    who: &Who<'_>,
+    source: &Term<'_>,
+    above: u32,
+) -> Result<u32, MakeErr>
+    ensures { let s = spot.now in IfOk result (IsWritten w.old w.new
+        (part.denied (script_of of.now.script.now) s.duty (init_of s.init.now) s.number
+        (use_data s.at) (term_data row.now) (who_data who.now) (term_data source.now) above)) }
+{
+    let k = spot.duty.command as usize;
+    let reads = reached_at(w, of, k, spot.init, spot.number, row, source, above)?;
+    let target = Target::Field(spot.at.model, spot.at.field);
+    let may_not = right_at(w, of, k, target, Right::Read, source, who, false, above)?;
+    w.both(reads, may_not)
+}
+
+/// Writes that who is asked about may read the added field on the record, too.
+fn leaked(
+    w: &mut Writer,
+    of: &Numbered<'_>,
+    spot: &Spot<'_>,
+    row: &Term<'_>,
+    who: &Who<'_>,
+    source: &Term<'_>,
+    above: u32,
+) -> Result<u32, MakeErr>
+    ensures { let s = spot.now in IfOk result (IsWritten w.old w.new
+        (part.leaked (script_of of.now.script.now) s.duty (init_of s.init.now) s.number
+        (use_data s.at) (term_data row.now) (who_data who.now) (term_data source.now) above)) }
+{
+    let k = spot.duty.command as usize;
+    let target = spot.duty.target;
+    let may = right_at(w, of, k, target, Right::Read, row, who, true, above)?;
+    let rest = denied(w, of, spot, row, who, source, above)?;
+    w.both(may, rest)
+}
+
+/// Writes that it is so for some record whose field is read.
+fn leaked_from_some(
+    w: &mut Writer,
+    of: &Numbered<'_>,
+    spot: &Spot<'_>,
+    row: &Term<'_>,
+    who: &Who<'_>,
+    above: u32,
+) -> Result<u32, MakeErr>
+    requires { above ≤ 2 }
+    ensures { let s = spot.now in IfOk result (IsWritten w.old w.new
+        (part.leaked_from_some (script_of of.now.script.now) s.duty (init_of s.init.now) s.number
+        (use_data s.at) (term_data row.now) (who_data who.now) above)) }
+{
+    let sort = of.sort_of(spot.at.model);
+    let source = Term::Bound(sort, above);
+    let id = leaked(w, of, spot, row, who, &source, above + 1)?;
+    w.exists(sort, id)
+}
+
+/// Writes that it is so for some principal of the kind.
+fn leaked_to_some(
+    w: &mut Writer,
+    of: &Numbered<'_>,
+    spot: &Spot<'_>,
+    row: &Term<'_>,
+) -> Result<u32, MakeErr>
+    ensures { let s = spot.now in IfOk result (IsWritten w.old w.new
+        (part.leaked_to_some (script_of of.now.script.now) s.duty (init_of s.init.now) s.number
+        (use_data s.at) (term_data row.now))) }
+{
+    match spot.duty.kind {
+        Kind::Static(n) => leaked_from_some(w, of, spot, row, &Who::Static(n), 1),
+        Kind::Model(m) => {
+            let sort = of.sort_of(m);
+            let term = Term::Bound(sort, 1);
+            let id = leaked_from_some(w, of, spot, row, &Who::Record(m, &term), 2)?;
+            w.exists(sort, id)
+        }
+    }
+}
+
+/// Writes that the use leaks.
+fn leak(w: &mut Writer, of: &Numbered<'_>, spot: &Spot<'_>) -> Result<u32, MakeErr>
+    ensures { let s = spot.now in IfOk result (IsWritten w.old w.new
+        (leak_formula (script_of of.now.script.now) s.duty (init_of s.init.now) s.number
+        (use_data s.at))) }
+{
+    let sort = of.sort_of(model_of_target(spot.duty.target));
+    let id = leaked_to_some(w, of, spot, &Term::Bound(sort, 0))?;
+    w.exists(sort, id)
+}
+
+/// Writes the formula of an obligation against a leak of the use of this number, counted from 1.
+fn flow(
+    alloc: Global,
+    w: &mut Writer,
+    of: &Numbered<'_>,
+    duty: Duty,
+    spot: u32,
+) -> Result<u32, MakeErr>
+    ensures { IfOk result (IsWritten w.old w.new
+        (flow_formula_of (script_of of.now.script.now) duty spot)) }
+{
+    let Some(init) = init_of_duty(of.script, duty) else {
+        return w.constant(false);
+    };
+    let number = (spot as usize).saturating_sub(1);
+    let Some(at) = use_at(alloc, init, number)? else {
+        return w.constant(false);
+    };
+    let spot = Spot {
+        duty,
+        init,
+        number,
+        at,
+    };
+    leak(w, of, &spot)
+}
+
+/// Makes the formula of an obligation of the script that is against a leak, in the arena, and gives
+/// its number: some principal of the kind may read the added field on some record, and the use reads
+/// its field of a record on which that principal may not read it. There is room in the arena for
+/// the normal form.
+pub fn flow_formula(
+    alloc: Global,
+    arena: &mut Arena,
+    t: &TScript,
+    duty: Duty,
+    spot: u32,
+) -> Result<u32, AllocError>
+    requires { duty.spot ≡ Some spot }
+    ensures formula { IfOk result (λ id. StandsFor arena.new id
+        (flow_formula_of (script_of t.now) duty spot)) }
+    ensures room { IfOk result (λ id. 3 * length arena.new ≤ 4000000) }
+{
+    let numbering = Numbering::of(alloc, &t.start)?;
+    let of = Numbered {
+        script: t,
+        numbering: &numbering,
+    };
+    let mut w = writer_over(alloc, arena)?;
+    let made = flow(alloc, &mut w, &of, duty, spot);
+    put_back(arena, w, made)
+}

@@ -1,0 +1,44 @@
+//! Whether a principal has a right at a command.
+
+ghost use Rattle.std.specs.Prelude.{IfOk};
+ghost use Rattle.sc_schema.specs.SchemaViews.{script_of};
+ghost use Rattle.sc_duty.specs.Duties.{has_right};
+ghost use Rattle.sc_writer.specs.Terms.{term_data};
+ghost use Rattle.sc_builder.specs.Values.{who_data};
+ghost use Rattle.sc_gain.specs.Written.{IsWritten};
+
+use crate::numbered::Numbered;
+use crate::policies::policy_at;
+use sc_builder::{MOST_FUEL, Start, Who, allowed};
+use sc_schema::{Right, Target};
+use sc_writer::{MakeErr, Term, Writer};
+
+/// Writes whether the policy in force after k commands allows who is asked about the right on the
+/// record that a term is; where the sign is not, that it does not.
+pub(crate) fn right_at(
+    w: &mut Writer,
+    of: &Numbered<'_>,
+    k: usize,
+    target: Target,
+    right: Right,
+    row: &Term<'_>,
+    who: &Who<'_>,
+    sign: bool,
+    above: u32,
+) -> Result<u32, MakeErr>
+    ensures { IfOk result (IsWritten w.old w.new (has_right (script_of of.now.script.now)
+        k target right (term_data row.now) (who_data who.now) sign above)) }
+{
+    let Some(policy) = policy_at(of.script, k, target, right) else {
+        return w.constant(!sign);
+    };
+    let start = of.start_at(k);
+    let upto = start.added.len();
+    let made = allowed(w, &start, upto, policy, row, who, sign, above, MOST_FUEL);
+    let Start {
+        schema: _,
+        numbering: _,
+        added: _,
+    } = start;
+    made
+}
