@@ -63,19 +63,32 @@ fn answer<T: Theory>(
     }
 }
 
-/// What a solver finds that is not used any more.
+/// Lets a solver try these values first.
+fn prefer<T: Theory>(solver: &mut Solver<T>, first: &[PLit])
+    requires { IsWithin solver.old.vars first.now }
+    ensures { solver.new ≡ solver.old }
+{
+    for literal in first {
+        solver.prefer(*literal);
+    }
+}
+
+/// What a solver finds that is not used any more, which tries these values first.
 fn last_answer<T: Theory + Drop>(
     alloc: Global,
     vars: u32,
     solver: Solver<T>,
+    first: &[PLit],
 ) -> Result<Option<(Vec<bool>, T::Model)>, AllocError>
-    requires { solver.vars ≡ vars }
+    requires vars { solver.vars ≡ vars }
+    requires within { IsWithin vars first.now }
     ensures none { IfOk result (λ found. found ≡ None → (assignment : List Bool) → IsLawfulFor
         T.models T.meets solver assignment → ⊥) }
     ensures some { IfOk result (λ found. IfSome found (λ both. AreValues vars solver.clauses
         both.0.items)) }
 {
     let mut solver = solver;
+    prefer(&mut solver, first);
     answer(alloc, vars, &mut solver)
 }
 
@@ -106,7 +119,7 @@ fn procedures(
 }
 
 /// Searches for an assignment that meets each clause and whose equalities and differences have a
-/// model; None exactly where there is none.
+/// model; None exactly where there is none. These values are tried first.
 ///
 /// The terms are numbers below `terms`, of which those in `fixed` are pairwise different, and those
 /// of differences numbers below `numbers`, of which 0 is zero. `atoms` has one entry for each of
@@ -116,6 +129,7 @@ pub fn search_mixed(
     vars: u32,
     clauses: &[Vec<PLit>],
     atoms: Vec<Option<(PairLit<EqualityLit, Diff>, PairLit<EqualityLit, Diff>)>>,
+    first: &[PLit],
     terms: usize,
     fixed: &[u32],
     numbers: usize,
@@ -130,6 +144,7 @@ pub fn search_mixed(
     requires one_each { length atoms.items ≡ vars }
     requires taken { AreTaken terms numbers atoms.items }
     requires within { All (λ clause. IsWithin vars clause.items) clauses.now }
+    requires first_in { IsWithin vars first.now }
     ensures none { IfOk result (λ found. found ≡ None → (assignment : List Bool) → IsMixed terms
         fixed.now numbers vars (map (λ c. c.items) clauses.now) atoms.items assignment → ⊥) }
     ensures some { IfOk result (λ found. IfSome found (IsMixture vars (map (λ c. c.items)
@@ -137,7 +152,7 @@ pub fn search_mixed(
 {
     let theory = procedures(alloc, terms, fixed, numbers, vars as usize)?;
     let solver = Solver::new(alloc, vars, clauses, atoms, theory)?;
-    match last_answer(alloc, vars, solver)? {
+    match last_answer(alloc, vars, solver, first)? {
         None => Ok(None),
         Some((values, (classes, numbers))) => Ok(Some(Mixture {
             values,

@@ -9,11 +9,13 @@
 //! - `problem`: clauses for the solver.
 //! - `spares`: texts for classes that have none of the formula's.
 //! - `reading`: what was found, read from what the solver found.
+//! - `joining`: classes that nothing keeps apart, as one.
 //! - `search`: [`find_table`].
 #![tactic(auto)]
 
 mod atoms;
 mod halves;
+mod joining;
 mod problem;
 mod reading;
 mod search;

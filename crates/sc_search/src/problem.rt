@@ -87,7 +87,7 @@ pub(crate) fn are_below(bound: u32, clauses: &[Vec<Literal>]) -> bool
 }
 
 /// Whether the variables of a clause for the solver are below a bound.
-fn is_within(bound: u32, clause: &[PLit]) -> bool
+pub(crate) fn is_within(bound: u32, clause: &[PLit]) -> bool
     ensures { result ≡ true → IsWithin bound clause.now }
 {
     for literal in clause {

@@ -70,7 +70,7 @@ fn flags_of(
         there: vec![in alloc; false; reader.terms.len()]?,
         raised: vec![in alloc; false; reader.terms.len()]?,
         related: vec![in alloc; false; pairs.len()]?,
-        empty: vec![in alloc; false; reader.signature.sorts as usize]?,
+        empty: vec![in alloc; true; reader.signature.sorts as usize]?,
     };
     for (fact, value) in facts.iter().zip(values.iter().skip(first as usize)) {
         flags.set(&places, *fact, *value);
@@ -92,12 +92,12 @@ fn value_of(
     alloc: Global,
     reader: Reader<'_>,
     mixture: &Mixture,
+    classes: &[u32],
     raised: &[bool],
     spares: &mut Spares,
     id: u32,
 ) -> Result<SVal, AllocError> {
     let place = id as usize;
-    let classes = mixture.classes.as_slice();
     let class = classes.get(place).copied().unwrap_or(0);
     match range_at(reader.signature, reader.terms, id) {
         Some(Range::Rec(_)) => Ok(SVal::Rec(class)),
@@ -119,27 +119,30 @@ fn values_of(
     alloc: Global,
     reader: Reader<'_>,
     mixture: &Mixture,
+    classes: &[u32],
     raised: &[bool],
 ) -> Result<Items<SVal>, AllocError> {
     let mut spares = Spares::new(alloc);
     let mut values = Items::new(alloc);
     for id in 0..reader.terms.len() as u32 {
-        let value = value_of(alloc, reader, mixture, raised, &mut spares, id)?;
+        let value = value_of(alloc, reader, mixture, classes, raised, &mut spares, id)?;
         values.push(value)?;
     }
     Ok(values)
 }
 
-/// The columns of what the solver found.
+/// The columns of what the solver found, with these classes of terms. A sort that no fact speaks of
+/// is empty.
 pub(crate) fn columns_of(
     alloc: Global,
     reader: Reader<'_>,
     facts: &[FactNode],
     first: u32,
     mixture: &Mixture,
+    classes: &[u32],
 ) -> Result<Columns, AllocError> {
     let flags = flags_of(alloc, reader, facts, first, mixture.values.as_slice())?;
-    let values = values_of(alloc, reader, mixture, flags.raised.as_slice())?;
+    let values = values_of(alloc, reader, mixture, classes, flags.raised.as_slice())?;
     let Flags {
         there,
         raised: _,

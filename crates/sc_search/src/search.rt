@@ -19,6 +19,7 @@ ghost use Rattle.sc_search.specs.Problem.{AreSolved, IsNowhere};
 ghost use Rattle.sc_search.specs.Tabled.{HasColumns, HasTable, IsGroundFor, IsTabled};
 ghost use Rattle.sc_search.specs.Texts.{StandOnce};
 
+use crate::joining::joined_classes;
 use crate::reading::columns_of;
 use crate::sides::Reader;
 use crate::solving::{Ground, solve};
@@ -65,7 +66,9 @@ fn found_from(
         reader.entry.terms.now reader.entry.words.now ground.entry.facts.now ground.entry.first
         mixture.now.values.items) }
 {
-    let columns = columns_of(alloc, reader, ground.facts, ground.first, mixture)?;
+    let classes = joined_classes(alloc, reader, ground, mixture)?;
+    let own = classes.as_slice();
+    let columns = columns_of(alloc, reader, ground.facts, ground.first, mixture, own)?;
     let pairs = reader.words.pairs.as_slice();
     let source = Source {
         arena: reader.arena,

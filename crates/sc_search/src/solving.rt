@@ -8,7 +8,7 @@ ghost use Rattle.sc_search.specs.Texts.{StandOnce};
 
 use crate::atoms::{Atom, atoms_for};
 use crate::halves::halves_of;
-use crate::problem::{are_below, are_taken, are_within, push_clauses, push_copies};
+use crate::problem::{are_below, are_taken, are_within, is_within, push_clauses, push_copies};
 use crate::sides::Reader;
 use sc_ast::Txt;
 use sc_clauses::FactNode;
@@ -79,6 +79,7 @@ fn search_checked(
     vars: u32,
     clauses: &[Vec<PLit>],
     atoms: Vec<Atom>,
+    first: &[PLit],
 ) -> Result<Option<Mixture>, AllocError>
     requires terms { terms < 1999999999 }
     requires texts { texts < 1999999999 }
@@ -94,6 +95,9 @@ fn search_checked(
     if !are_taken(terms + texts, terms + 1, atoms.as_slice()) || !are_within(vars, clauses) {
         return Err(AllocError);
     }
+    if !is_within(vars, first) {
+        return Err(AllocError);
+    }
     if clauses.len() >= 2_000_000_000 {
         return Err(AllocError);
     }
@@ -102,6 +106,7 @@ fn search_checked(
         vars,
         clauses,
         atoms,
+        first,
         (terms + texts) as usize,
         fixed.as_slice(),
         (terms + 1) as usize,
@@ -135,6 +140,20 @@ pub(crate) struct Ground<'a> {
     pub(crate) vars: u32,
     pub(crate) clauses: &'a [Vec<Literal>],
     pub(crate) gates: &'a [Vec<Literal>],
+}
+
+/// That no sort has an element, which is tried first: the less there is, the better it is read.
+fn values_first(alloc: Global, facts: &[FactNode], first: u32) -> Result<Vec<PLit>, AllocError> {
+    let mut values = Vec::new(alloc);
+    for place in 0..facts.len() {
+        if let FactNode::Empty(_) = facts[place] {
+            let Some(var) = first.checked_add(u32::try_from(place).map_err(|_| AllocError)?) else {
+                return Err(AllocError);
+            };
+            values.push(PLit { var, plus: true })?;
+        }
+    }
+    Ok(values)
 }
 
 /// Searches for values that meet clauses, by the halves of equalities of numbers.
@@ -172,7 +191,16 @@ fn solve_with(
     if atoms.len() != total as usize {
         return Err(AllocError);
     }
-    search_checked(alloc, terms, texts, total, clauses.as_slice(), atoms)
+    let values = values_first(alloc, ground.facts, ground.first)?;
+    search_checked(
+        alloc,
+        terms,
+        texts,
+        total,
+        clauses.as_slice(),
+        atoms,
+        values.as_slice(),
+    )
 }
 
 /// Searches for values that meet clauses in which facts are as in a lawful model; None only where there

@@ -33,7 +33,7 @@ use std::alloc::{AllocError, Global};
 use std::marker::Model;
 
 /// For how many learned clauses there is room for each variable.
-const LEARNED_EACH: usize = 256;
+const LEARNED_EACH: usize = 32;
 
 /// For how many there is room for all variables at most.
 const USUAL_LEARNED: usize = 16_384;
@@ -145,6 +145,14 @@ impl<T: Theory> Learner<T> {
         ensures { result ≡ value_in self.now.state.entries var }
     {
         self.state.value(var)
+    }
+
+    /// Lets a variable be tried with this value first, until it has another.
+    pub fn prefer(&mut self, literal: PLit)
+        requires { literal.var < self.old.state.vars }
+        ensures { self.new ≡ record self.old { preferences = noted self.old.preferences literal } }
+    {
+        self.preferences.note(literal);
     }
 
     /// Makes a literal true, unless the theory refuses it. Then the literals that are why get marks.

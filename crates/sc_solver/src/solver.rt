@@ -132,6 +132,15 @@ impl<T: Theory> Solver<T> {
         Ok(())
     }
 
+    /// Lets a search try a variable with this value first, until it has another. Which assignment is
+    /// found may depend on it, and not whether one is.
+    pub fn prefer(&mut self, literal: PLit)
+        requires { literal.var < self.old.vars }
+        ensures { self.new ≡ self.old }
+    {
+        self.learner.prefer(literal);
+    }
+
     /// Seeks a lawful assignment, whatever was assumed. Where there is one, the solver has it until
     /// the next call that changes it, and the theory has its literals.
     pub fn search(&mut self) -> Answer
