@@ -1,3 +1,7 @@
-pub mod Counts
+pub mod Before
+pub mod Headline
+pub mod InTurn
 pub mod Joined
 pub mod OneStatus
+pub mod Turns
+pub mod Written

@@ -1,48 +1,59 @@
--- Two answers to the same words on the same files have one status.
-use Rattle.std.proofs.Common.{◌≡◌, ◌<◌, ◌≤◌, ℕ, List, refl, ap, sym, ◌∙◌, subst, length, arith}
+-- Two answers to the same words on the same files have one status, or one is a leak and the other no decision.
+use Rattle.std.proofs.Common.{◌≡◌, ◌<◌, ◌≤◌, ◌⊎◌, inl, inr, ℕ, List, refl, ap, ap₂, sym, ◌∙◌, subst, length, arith}
 use Rattle.std.specs.Prelude.{⊤, Option, Some, None, IsSomeAnd, Result, Ok, Err}
 use Rattle.sc_flow.specs.Files.{Files}
-use Rattle.sc_ast.specs.declared.models.Spec as ast_spec
-use Rattle.sc_ast.specs.declared.commands.Script as ast_script
-use Rattle.sc_tree.specs.declared.models.Spec.{Spec}
-use Rattle.sc_tree.specs.declared.commands.Script.{Script}
+use Rattle.sc_tree.specs.declared.models.Spec as written_spec
+use Rattle.sc_tree.specs.declared.commands.Script as written_script
 use Rattle.sc_tree.specs.ExprGrammar.{G}
 use Rattle.sc_tree.specs.Grammar.{spec_form, script_form}
 use Rattle.sc_tree.specs.Texts.{IsTextOf}
 use Rattle.sc_texts.specs.Refused.{IsRefusedAs}
 use Rattle.sc_texts.specs.declared.syntax_err.SyntaxErr.{SyntaxErr}
-use Rattle.sc_check.specs.declared.outcome.Outcome.{Outcome}
-use Rattle.sc_check.specs.declared.outcome.Outcome.TheVariants as outcome
-use Rattle.sc_check.specs.declared.outcome.Leak.{Leak}
-use Rattle.sc_check.specs.Outcome.{IsOutcome}
+use Rattle.sc_texts.proofs.OneText.{OneText}
+use Rattle.sc_texts.proofs.GrammarTexts.{spec_text, script_text}
+use Rattle.sc_schema.specs.Schema.{Schema}
+use Rattle.sc_schema.specs.Script.{Script, IsScript}
+use Rattle.sc_schema.specs.SchemaViews.{script_of}
+use Rattle.sc_checker.specs.Views.{outcome_data}
+use Rattle.sc_specs.specs.Specs.{typed_spec}
+use Rattle.sc_typing.specs.declared.type_err.TypeErr.{TypeErr}
+use Rattle.sc_commands.specs.declared.script_err.ScriptErr.TheVariants.{Bad}
+use Rattle.sc_commands.specs.Scripts.{typed_script}
+use Rattle.sc_scripts.specs.Counted.{counted}
+use Rattle.sc_verdict.specs.Outcomes.{Outcome, accepted, leak, undecided, too_large, IsOutcome}
+use Rattle.sc_verdict.specs.Agree.{Standing, passed, held_up, oversized, standing}
+use Rattle.sc_verdict.proofs.Agree.{outcomes_agree}
 use Rattle.sc_run.specs.declared.limits.TheConstants.{MOST_FILE_BYTES}
 use Rattle.sc_run.specs.declared.answer.Answer.{Answer}
 use Rattle.sc_run.specs.declared.answer.Answer.TheVariants as answer
 use Rattle.sc_run.specs.declared.answer.Checked.{Checked}
+use Rattle.sc_run.specs.declared.fault.Fault.{Fault}
 use Rattle.sc_run.specs.declared.refusal.Refusal.{Refusal}
 use Rattle.sc_run.specs.declared.refusal.Refusal.TheVariants as refusal
 use Rattle.sc_run.specs.declared.status.Status.{Status}
+use Rattle.sc_run.specs.declared.status.Status.TheVariants as status
 use Rattle.sc_run.specs.declared.stop.Stop.{Stop}
 use Rattle.sc_run.specs.declared.stop.Stop.TheVariants as stop
-use Rattle.sc_run.specs.Answer.{Commands, Checks, ChecksFiles, Runs, IsAnswer, refusal_status, outcome_status, status_of}
+use Rattle.sc_run.specs.Answer.{Commands, AsksFiles, Asks, Checks, Runs, IsAnswer, refusal_status, outcome_status, status_of, AreAlike}
 use Rattle.sc_run.specs.Loads.{IsNotGiven, Fetches, Reads, Loads}
 use Rattle.sc_run.specs.Stages.{Stage, Then, Stops, Goes}
+use Rattle.sc_run.specs.Typed.{TypesSpec, TypesScript, HasFault, schema_before, user_of}
 
 -- No fault and no want of memory ended the stage.
-abbrev IsRefused : Stop → Type 0
+abbrev pub IsRefused : Stop → Type 0
 IsRefused (stop.Refused r) = ⊤
 IsRefused stop.ReadFault = ⊥
 IsRefused stop.OutOfMemory = ⊥
 
-abbrev IsFound : {A : Type 0} → Result A Stop → Type 0
+abbrev pub IsFound : {A : Type 0} → Result A Stop → Type 0
 IsFound (Ok x) = ⊤
 IsFound (Err s) = IsRefused s
 
 -- The stage comes to one end; or to one as far as a view shows.
-abbrev IsOne : {A : Type 0} → Stage A → Type 0
+abbrev pub IsOne : {A : Type 0} → Stage A → Type 0
 IsOne {A} stage = (x y : Result A Stop) → IsFound x → IsFound y → stage x → stage y → x ≡ y
 
-abbrev IsOneBy : {A C : Type 0} → (Result A Stop → C) → Stage A → Type 0
+abbrev pub IsOneBy : {A C : Type 0} → (Result A Stop → C) → Stage A → Type 0
 IsOneBy {A} view stage = (x y : Result A Stop) → IsFound x → IsFound y → stage x → stage y → view x ≡ view y
 
 -- Where both stages come to one end, so do they one after the other.
@@ -88,7 +99,8 @@ given-refused file files name text refusal.Usage short e h = h
 given-refused file files name text (refusal.Missing n) short e (s, none) = cc
 given-refused file files name text (refusal.TooLong n) short e (s, long) = too_long (files name) text short e long
 given-refused file files name text (refusal.Text n err) short e h = h
-given-refused file files name text refusal.NotBuilt short e h = h
+given-refused file files name text (refusal.SpecTypes n err) short e h = h
+given-refused file files name text (refusal.ScriptTypes n fault) short e h = h
 
 refused-one : (files : Files) (name : List ℕ) (r t : Refusal) → IsNotGiven (Some files) name r → IsNotGiven (Some files) name t → r ≡ t
 refused-one files name (refusal.Missing m) (refusal.Missing n) (s, p) (u, q) = cc
@@ -97,13 +109,16 @@ refused-one files name (refusal.TooLong m) (refusal.Missing n) (s, p) (u, q) = a
 refused-one files name (refusal.TooLong m) (refusal.TooLong n) (s, p) (u, q) = cc
 refused-one files name refusal.Usage t p q = absurd p
 refused-one files name (refusal.Text m err) t p q = absurd p
-refused-one files name refusal.NotBuilt t p q = absurd p
+refused-one files name (refusal.SpecTypes m err) t p q = absurd p
+refused-one files name (refusal.ScriptTypes m fault) t p q = absurd p
 refused-one files name (refusal.Missing m) refusal.Usage p q = absurd q
 refused-one files name (refusal.Missing m) (refusal.Text n err) p q = absurd q
-refused-one files name (refusal.Missing m) refusal.NotBuilt p q = absurd q
+refused-one files name (refusal.Missing m) (refusal.SpecTypes n err) p q = absurd q
+refused-one files name (refusal.Missing m) (refusal.ScriptTypes n fault) p q = absurd q
 refused-one files name (refusal.TooLong m) refusal.Usage p q = absurd q
 refused-one files name (refusal.TooLong m) (refusal.Text n err) p q = absurd q
-refused-one files name (refusal.TooLong m) refusal.NotBuilt p q = absurd q
+refused-one files name (refusal.TooLong m) (refusal.SpecTypes n err) p q = absurd q
+refused-one files name (refusal.TooLong m) (refusal.ScriptTypes n fault) p q = absurd q
 
 fetches-one : (files : Files) (name : List ℕ) → IsOne (Fetches (Some files) name)
 fetches-one files name (Ok a) (Ok b) f g (s, p) (u, q) = let same : a ≡ b = cc in ap (λ z. Ok z) same
@@ -117,13 +132,8 @@ fetches-one files name (Err (stop.Refused r)) (Err stop.OutOfMemory) f g p q = a
 fetches-one files name (Err stop.ReadFault) y f g p q = absurd f
 fetches-one files name (Err stop.OutOfMemory) y f g p q = absurd f
 
--- a text spells one tree of the form, or it is refused for one cause, and never both
-pub record OneAnswer {T : Type 0} (form : G T) : Type 0 where
-  pub one : (text : List ℕ) (x y : T) → IsTextOf form text x → IsTextOf form text y → x ≡ y
-  pub tree : (text : List ℕ) (x : T) (err : SyntaxErr) → IsTextOf form text x → ¬ (IsRefusedAs form text err)
-  pub refusal : (text : List ℕ) (err other : SyntaxErr) → IsRefusedAs form text err → IsRefusedAs form text other → err ≡ other
-
-reads-one : {T : Type 0} (form : G T) → OneAnswer form → (name text : List ℕ) → IsOne (Reads form name text)
+-- A text spells one tree of the form, or it is refused for one cause, and never both.
+reads-one : {T : Type 0} (form : G T) → OneText form → (name text : List ℕ) → IsOne (Reads form name text)
 reads-one form one name text (Ok a) (Ok b) f g p q = ap (λ z. Ok z) (one.one text a b p q)
 reads-one form one name text (Ok a) (Err (stop.Refused r)) f g p (err, is, has) = absurd (one.tree text a err p has)
 reads-one form one name text (Ok a) (Err stop.ReadFault) f g p q = absurd g
@@ -136,51 +146,120 @@ reads-one form one name text (Err (stop.Refused r)) (Err stop.OutOfMemory) f g p
 reads-one form one name text (Err stop.ReadFault) y f g p q = absurd f
 reads-one form one name text (Err stop.OutOfMemory) y f g p q = absurd f
 
-loads-one : {T : Type 0} (form : G T) → OneAnswer form → (files : Files) (name : List ℕ) → IsOne (Loads form (Some files) name)
+loads-one : {T : Type 0} (form : G T) → OneText form → (files : Files) (name : List ℕ) → IsOne (Loads form (Some files) name)
 loads-one {T} form one files name = then-one (λ (z : Result T Stop). z) (Fetches (Some files) name) (Reads form name) (fetches-one files name) (reads-one form one name)
 
--- the status of an end
-abbrev end_status : Result Checked Stop → Option Status
-end_status (Ok checked) = Some (outcome_status checked.outcome)
-end_status (Err (stop.Refused r)) = Some (refusal_status r)
-end_status (Err stop.ReadFault) = None
-end_status (Err stop.OutOfMemory) = None
+types-spec-one : (name : List ℕ) (spec : written_spec.Spec) → IsOne (TypesSpec name spec)
+types-spec-one name spec (Ok a) (Ok b) f g p q = let same : a ≡ b = cc in ap (λ z. Ok z) same
+types-spec-one name spec (Ok a) (Err (stop.Refused r)) f g p (err, is, has) = absurd cc
+types-spec-one name spec (Ok a) (Err stop.ReadFault) f g p q = absurd g
+types-spec-one name spec (Ok a) (Err stop.OutOfMemory) f g p q = absurd g
+types-spec-one name spec (Err (stop.Refused r)) (Ok b) f g (err, is, has) q = absurd cc
+types-spec-one name spec (Err (stop.Refused r)) (Err (stop.Refused t)) f g (err, is, has) (other, same, had) =
+    let one : err ≡ other = cc in
+    ap (λ z. Err (stop.Refused z)) (is ∙ ap (refusal.SpecTypes name) one ∙ sym same)
+types-spec-one name spec (Err (stop.Refused r)) (Err stop.ReadFault) f g p q = absurd g
+types-spec-one name spec (Err (stop.Refused r)) (Err stop.OutOfMemory) f g p q = absurd g
+types-spec-one name spec (Err stop.ReadFault) y f g p q = absurd f
+types-spec-one name spec (Err stop.OutOfMemory) y f g p q = absurd f
 
--- No script has both outcomes.
-accepted-leak : (s : ast_spec.Spec) (script : ast_script.Script) (n : ℕ) (l : Leak) → IsOutcome s script (outcome.Accepted n) → IsOutcome s script (outcome.Leak l) → ⊥
-accepted-leak s script n l (secure, count) (first, gain) = secure _ _ _ _ _ _ gain
+same-fault : (a b : Fault) → a.command ≡ b.command → a.err ≡ b.err → a.user ≡ b.user → a ≡ b
+same-fault a b command err user =
+    ap (λ (k : ℕ). record { command = k; err = a.err; user = a.user }) command
+    ∙ ap (λ (e : TypeErr). record { command = b.command; err = e; user = a.user }) err
+    ∙ ap (λ (u : List ℕ). record { command = b.command; err = b.err; user = u }) user
 
-outcomes-one : (s : ast_spec.Spec) (script : ast_script.Script) (a b : Outcome) → IsOutcome s script a → IsOutcome s script b → outcome_status a ≡ outcome_status b
-outcomes-one s script (outcome.Accepted m) (outcome.Accepted n) p q = refl
-outcomes-one s script (outcome.Accepted m) (outcome.Leak l) p q = absurd (accepted-leak s script m l p q)
-outcomes-one s script (outcome.Leak l) (outcome.Accepted m) p q = absurd (accepted-leak s script m l q p)
-outcomes-one s script (outcome.Leak l) (outcome.Leak k) p q = refl
+-- a fault of a script over a schema is one
+fault-one : (s : Schema) (script : written_script.Script) (a b : Fault) → HasFault s script a → HasFault s script b → a ≡ b
+fault-one s script a b p q =
+    let refused : Err (Bad a.command a.err) ≡ Err (Bad b.command b.err) = sym p.refused ∙ q.refused in
+    let command : a.command ≡ b.command = cc in
+    let err : a.err ≡ b.err = cc in
+    let reached : Ok p.before ≡ Ok q.before = sym p.before_is ∙ ap (schema_before s script) command ∙ q.before_is in
+    let before : p.before ≡ q.before = cc in
+    let user : a.user ≡ b.user = p.user ∙ ap₂ user_of before err ∙ sym q.user in
+    same-fault a b command err user
 
-checks-one : (s : Spec) (script : Script) → IsOneBy end_status (Checks s script)
-checks-one s script (Ok a) (Ok b) f g (t, small, p) (u, other, q) =
-    let spec : b.spec ≡ a.spec = let two = other.spec_is in let one = small.spec_is in cc in
-    let same : u ≡ t = let two = other.script_is in let one = small.script_is in cc in
-    let moved = subst (λ (z : ast_script.Script). IsOutcome a.spec z b.outcome) same (subst (λ (z : ast_spec.Spec). IsOutcome z u b.outcome) spec q) in
-    ap (λ z. Some z) (outcomes-one a.spec t a.outcome b.outcome p moved)
-checks-one s script (Ok a) (Err (stop.Refused r)) f g (t, small, p) (e, not_small) = absurd (not_small a.spec t small)
-checks-one s script (Ok a) (Err stop.ReadFault) f g p q = absurd g
-checks-one s script (Ok a) (Err stop.OutOfMemory) f g p q = absurd g
-checks-one s script (Err (stop.Refused r)) (Ok b) f g (e, not_small) (t, small, p) = absurd (not_small b.spec t small)
-checks-one s script (Err (stop.Refused r)) (Err (stop.Refused t)) f g (d, p) (e, q) = cc
-checks-one s script (Err (stop.Refused r)) (Err stop.ReadFault) f g p q = absurd g
-checks-one s script (Err (stop.Refused r)) (Err stop.OutOfMemory) f g p q = absurd g
-checks-one s script (Err stop.ReadFault) y f g p q = absurd f
-checks-one s script (Err stop.OutOfMemory) y f g p q = absurd f
+types-script-one : (name : List ℕ) (s : Schema) (script : written_script.Script) → IsOne (TypesScript name s script)
+types-script-one name s script (Ok a) (Ok b) f g p q = let same : a ≡ b = cc in ap (λ z. Ok z) same
+types-script-one name s script (Ok a) (Err (stop.Refused r)) f g p (fault, is, has) = let refused = has.refused in absurd cc
+types-script-one name s script (Ok a) (Err stop.ReadFault) f g p q = absurd g
+types-script-one name s script (Ok a) (Err stop.OutOfMemory) f g p q = absurd g
+types-script-one name s script (Err (stop.Refused r)) (Ok b) f g (fault, is, has) q = let refused = has.refused in absurd cc
+types-script-one name s script (Err (stop.Refused r)) (Err (stop.Refused t)) f g (fault, is, has) (other, same, had) =
+    ap (λ z. Err (stop.Refused z)) (is ∙ ap (refusal.ScriptTypes name) (fault-one s script fault other has had) ∙ sym same)
+types-script-one name s script (Err (stop.Refused r)) (Err stop.ReadFault) f g p q = absurd g
+types-script-one name s script (Err (stop.Refused r)) (Err stop.OutOfMemory) f g p q = absurd g
+types-script-one name s script (Err stop.ReadFault) y f g p q = absurd f
+types-script-one name s script (Err stop.OutOfMemory) y f g p q = absurd f
 
-runs-one : OneAnswer spec_form → OneAnswer script_form → (files : Files) (words : List (List ℕ)) → IsOneBy end_status (Runs (Some files) words)
-runs-one specs scripts files words =
-    then-one end_status (Commands words) (ChecksFiles (Some files)) (commands-one words)
-    (λ names. then-one end_status (Loads spec_form (Some files) names.spec) (λ s. Then (Loads script_form (Some files) names.script) (Checks s))
-    (loads-one spec_form specs files names.spec)
-    (λ s. then-one end_status (Loads script_form (Some files) names.script) (Checks s) (loads-one script_form scripts files names.script) (checks-one s)))
+then-same : {A B : Type 0} (first : Stage A) (second : A → Stage B) → IsOne first → ((x : A) → IsOne (second x)) → IsOne (Then first second)
+then-same {A} {B} first second one-first one-second = then-one (λ (z : Result B Stop). z) first second one-first one-second
 
-pub one-status : OneAnswer spec_form → OneAnswer script_form → (files : Files) (words : List (List ℕ)) (a b : Answer) → IsAnswer (Some files) words a → IsAnswer (Some files) words b → status_of a ≡ status_of b
-one-status specs scripts files words (answer.Checked a) (answer.Checked b) p q = cc (runs-one specs scripts files words (Ok a) (Ok b) tt tt p q)
-one-status specs scripts files words (answer.Checked a) (answer.Refused r) p q = cc (runs-one specs scripts files words (Ok a) (Err (stop.Refused r)) tt tt p q)
-one-status specs scripts files words (answer.Refused r) (answer.Checked b) p q = cc (runs-one specs scripts files words (Err (stop.Refused r)) (Ok b) tt tt p q)
-one-status specs scripts files words (answer.Refused r) (answer.Refused t) p q = cc (runs-one specs scripts files words (Err (stop.Refused r)) (Err (stop.Refused t)) tt tt p q)
+-- Words ask for one script.
+pub asks-one : (files : Files) (words : List (List ℕ)) → IsOne (Asks (Some files) words)
+asks-one files words =
+    then-same (Commands words) (AsksFiles (Some files)) (commands-one words)
+    (λ names. then-same (Loads spec_form (Some files) names.spec) (λ spec. Then (TypesSpec names.spec spec) (λ s. Then (Loads script_form (Some files) names.script) (TypesScript names.script s)))
+    (loads-one spec_form spec_text files names.spec)
+    (λ spec. then-same (TypesSpec names.spec spec) (λ s. Then (Loads script_form (Some files) names.script) (TypesScript names.script s)) (types-spec-one names.spec spec)
+    (λ s. then-same (Loads script_form (Some files) names.script) (TypesScript names.script s) (loads-one script_form script_text files names.script)
+    (types-script-one names.script s))))
+
+-- what an end shows: how the script stands, or the status of a refusal
+data Seen : Type 0 where
+  stands : Standing → Seen
+  refused : Status → Seen
+  cut_off : Seen
+
+end_seen : Result Checked Stop → Seen
+end_seen (Ok checked) = stands (standing (outcome_data checked.outcome))
+end_seen (Err (stop.Refused r)) = refused (refusal_status r)
+end_seen (Err stop.ReadFault) = cut_off
+end_seen (Err stop.OutOfMemory) = cut_off
+
+checks-one : (t : Script) → IsOneBy end_seen (Checks t)
+unfolding end_seen
+checks-one t (Ok a) (Ok b) f g p q = ap stands (outcomes_agree t p.typed (outcome_data a.outcome) (outcome_data b.outcome) p.outcome q.outcome)
+checks-one t (Ok a) (Err (stop.Refused r)) f g p q = absurd q
+checks-one t (Ok a) (Err stop.ReadFault) f g p q = absurd g
+checks-one t (Ok a) (Err stop.OutOfMemory) f g p q = absurd g
+checks-one t (Err (stop.Refused r)) y f g p q = absurd p
+checks-one t (Err stop.ReadFault) y f g p q = absurd f
+checks-one t (Err stop.OutOfMemory) y f g p q = absurd f
+
+runs-one : (files : Files) (words : List (List ℕ)) → IsOneBy end_seen (Runs (Some files) words)
+runs-one files words = then-one end_seen (Asks (Some files) words) Checks (asks-one files words) checks-one
+
+alike : (a b : Outcome) → standing a ≡ standing b → AreAlike (outcome_status a) (outcome_status b)
+alike (accepted m) (accepted n) e = inl refl
+alike (accepted m) (leak v) e = absurd cc
+alike (accepted m) (undecided d cycle) e = absurd cc
+alike (accepted m) (too_large d terms nodes) e = absurd cc
+alike (leak w) (accepted n) e = absurd cc
+alike (leak w) (leak v) e = inl refl
+alike (leak w) (undecided d cycle) e = inr (inl (refl, refl))
+alike (leak w) (too_large d terms nodes) e = absurd cc
+alike (undecided d cycle) (accepted n) e = absurd cc
+alike (undecided d cycle) (leak v) e = inr (inr (refl, refl))
+alike (undecided d cycle) (undecided c other) e = inl refl
+alike (undecided d cycle) (too_large c terms nodes) e = absurd cc
+alike (too_large d terms nodes) (accepted n) e = absurd cc
+alike (too_large d terms nodes) (leak v) e = absurd cc
+alike (too_large d terms nodes) (undecided c cycle) e = absurd cc
+alike (too_large d terms nodes) (too_large c some many) e = inl refl
+
+pub one-status : (files : Files) (words : List (List ℕ)) (a b : Answer) → IsAnswer (Some files) words a → IsAnswer (Some files) words b → AreAlike (status_of a) (status_of b)
+unfolding end_seen
+one-status files words (answer.Checked a) (answer.Checked b) p q =
+    let seen = runs-one files words (Ok a) (Ok b) tt tt p q in
+    alike (outcome_data a.outcome) (outcome_data b.outcome) cc
+one-status files words (answer.Checked a) (answer.Refused r) p q =
+    let seen = runs-one files words (Ok a) (Err (stop.Refused r)) tt tt p q in
+    absurd cc
+one-status files words (answer.Refused r) (answer.Checked b) p q =
+    let seen = runs-one files words (Err (stop.Refused r)) (Ok b) tt tt p q in
+    absurd cc
+one-status files words (answer.Refused r) (answer.Refused t) p q =
+    let seen = runs-one files words (Err (stop.Refused r)) (Err (stop.Refused t)) tt tt p q in
+    inl cc

@@ -1,17 +1,13 @@
 -- What the program may answer to its words, and what it then prints.
-use Rattle.std.specs.Prelude.{◌≡◌, ℕ, List, Option, Some, None, Ok, Err}
+use Rattle.std.specs.Prelude.{◌≡◌, ◌⊎◌, ℕ, List, Option, Some, None, Ok, Err}
 use Rattle.sc_flow.specs.Files.{Files}
-use Rattle.sc_ast.specs.declared.models.Spec as ast_spec
-use Rattle.sc_ast.specs.declared.commands.Script as ast_script
-use Rattle.sc_tree.specs.declared.models.Spec.{Spec}
-use Rattle.sc_tree.specs.declared.commands.Script.{Script}
 use Rattle.sc_tree.specs.Grammar.{spec_form, script_form}
-use Rattle.sc_small.specs.Small.{small_spec, small_script}
-use Rattle.sc_check.specs.declared.outcome.Outcome.{Outcome}
-use Rattle.sc_check.specs.declared.outcome.Outcome.TheVariants as outcome
-use Rattle.sc_check.specs.Outcome.{IsOutcome}
-use Rattle.sc_check.specs.Small.{IsSmallSpec, IsSmallScript}
-use Rattle.sc_check.specs.Witness.{witness_of}
+use Rattle.sc_schema.specs.Script.{Script, IsScript}
+use Rattle.sc_schema.specs.SchemaViews.{script_of}
+use Rattle.sc_verdict.specs.Outcomes.{Outcome, accepted, leak, undecided, too_large, IsOutcome}
+use Rattle.sc_witness.specs.Printed.{witness_text}
+use Rattle.sc_witness_text.specs.Reports.{undecided_text, too_large_text}
+use Rattle.sc_checker.specs.Views.{outcome_data}
 use Rattle.sc_run.specs.declared.answer.Answer.{Answer}
 use Rattle.sc_run.specs.declared.answer.Answer.TheVariants as answer
 use Rattle.sc_run.specs.declared.answer.Checked.{Checked}
@@ -21,8 +17,9 @@ use Rattle.sc_run.specs.declared.status.Status.{Status}
 use Rattle.sc_run.specs.declared.status.Status.TheVariants as status
 use Rattle.sc_run.specs.declared.stop.Stop.TheVariants.{Refused}
 use Rattle.sc_run.specs.Loads.{Loads}
-use Rattle.sc_run.specs.Report.{usage_text, missing_text, too_long_text, syntax_text, not_built_text, accepted_text, witness_text}
+use Rattle.sc_run.specs.Report.{usage_text, missing_text, too_long_text, syntax_text, spec_types_text, script_types_text, accepted_text}
 use Rattle.sc_run.specs.Stages.{Stage, Then, Judges}
+use Rattle.sc_run.specs.Typed.{TypesSpec, TypesScript}
 use Rattle.sc_run.specs.Words.{Names, command_of}
 
 -- ---- the stages, in their order
@@ -31,26 +28,28 @@ use Rattle.sc_run.specs.Words.{Names, command_of}
 abbrev pub Commands : List (List ℕ) → Stage Names
 Commands words = Judges (λ r. (r ≡ refusal.Usage) × (command_of words ≡ None)) (λ names. command_of words ≡ Some names)
 
--- The two trees are such a small pair, which can be decided.
-pub record AreSmall (spec : Spec) (script : Script) (s : ast_spec.Spec) (t : ast_script.Script) : Type 0 where
-  pub spec_is : small_spec spec ≡ Some s
-  pub script_is : small_script script ≡ Some t
-  pub on_spec : IsSmallSpec s
-  pub on_script : IsSmallScript s t
+-- The script of two files: the one is loaded and typed, and then the other over its schema.
+abbrev pub AsksFiles : Option Files → Names → Stage Script
+AsksFiles told names =
+    Then (Loads spec_form told names.spec) (λ spec. Then (TypesSpec names.spec spec)
+    (λ s. Then (Loads script_form told names.script) (TypesScript names.script s)))
 
--- The two trees are a small pair, and it is decided.
-abbrev pub Checks : Spec → Script → Stage Checked
-Checks spec script =
-    Judges (λ r. (r ≡ refusal.NotBuilt) × ((s : ast_spec.Spec) (t : ast_script.Script) → ¬ (AreSmall spec script s t)))
-    (λ checked. (t : ast_script.Script) × AreSmall spec script checked.spec t × IsOutcome checked.spec t checked.outcome)
+-- The script that the words ask for is this one: that of the files that they name.
+abbrev pub Asks : Option Files → List (List ℕ) → Stage Script
+Asks told words = Then (Commands words) (AsksFiles told)
 
--- `check SPEC SCRIPT`: the one file, the other, and then their trees
-abbrev pub ChecksFiles : Option Files → Names → Stage Checked
-ChecksFiles told names =
-    Then (Loads spec_form told names.spec) (λ s. Then (Loads script_form told names.script) (Checks s))
+-- The script is well typed, and comes to this outcome.
+pub record IsChecked (t : Script) (checked : Checked) : Type 0 where
+  pub script : script_of checked.script ≡ t
+  pub typed : IsScript t
+  pub outcome : IsOutcome t (outcome_data checked.outcome)
+
+-- The script is checked.
+abbrev pub Checks : Script → Stage Checked
+Checks t = Judges (λ r. ⊥) (IsChecked t)
 
 abbrev pub Runs : Option Files → List (List ℕ) → Stage Checked
-Runs told words = Then (Commands words) (ChecksFiles told)
+Runs told words = Then (Asks told words) Checks
 
 -- ---- the answers
 
@@ -64,14 +63,17 @@ refusal_status refusal.Usage = status.Usage
 refusal_status (refusal.Missing name) = status.Missing
 refusal_status (refusal.TooLong name) = status.TooLong
 refusal_status (refusal.Text name err) = status.TextRefused
-refusal_status refusal.NotBuilt = status.NotBuilt
+refusal_status (refusal.SpecTypes name err) = status.TypesRefused
+refusal_status (refusal.ScriptTypes name fault) = status.TypesRefused
 
 abbrev pub outcome_status : Outcome → Status
-outcome_status (outcome.Accepted n) = status.Done
-outcome_status (outcome.Leak l) = status.Leak
+outcome_status (accepted n) = status.Done
+outcome_status (leak w) = status.Leak
+outcome_status (undecided duty cycle) = status.Undecided
+outcome_status (too_large duty terms nodes) = status.TooLarge
 
 abbrev pub status_of : Answer → Status
-status_of (answer.Checked checked) = outcome_status checked.outcome
+status_of (answer.Checked checked) = outcome_status (outcome_data checked.outcome)
 status_of (answer.Refused r) = refusal_status r
 
 abbrev pub refusal_text : Refusal → List ℕ
@@ -79,12 +81,22 @@ refusal_text refusal.Usage = usage_text
 refusal_text (refusal.Missing name) = missing_text name
 refusal_text (refusal.TooLong name) = too_long_text name
 refusal_text (refusal.Text name err) = syntax_text name err
-refusal_text refusal.NotBuilt = not_built_text
+refusal_text (refusal.SpecTypes name err) = spec_types_text name err
+refusal_text (refusal.ScriptTypes name fault) = script_types_text name fault
 
-abbrev pub outcome_text : ast_spec.Spec → Outcome → List ℕ
-outcome_text s (outcome.Accepted n) = accepted_text n
-outcome_text s (outcome.Leak l) = witness_text s (witness_of s l)
+abbrev pub outcome_text : Script → Outcome → List ℕ
+outcome_text t (accepted n) = accepted_text n
+outcome_text t (leak w) = witness_text t w
+outcome_text t (undecided duty cycle) = undecided_text t duty cycle
+outcome_text t (too_large duty terms nodes) = too_large_text t duty terms nodes
 
 abbrev pub text_of : Answer → List ℕ
-text_of (answer.Checked checked) = outcome_text checked.spec checked.outcome
+text_of (answer.Checked checked) = outcome_text (script_of checked.script) (outcome_data checked.outcome)
 text_of (answer.Refused r) = refusal_text r
+
+-- ---- the statuses of answers to the same words on the same files
+
+-- The statuses are one; or one is that of a leak where the other is that of no decision. A formula that is not stratified may be true on
+-- some database and not be decided, so that both are answers.
+abbrev pub AreAlike : Status → Status → Type 0
+AreAlike a b = (a ≡ b) ⊎ ((a ≡ status.Leak) × (b ≡ status.Undecided)) ⊎ ((a ≡ status.Undecided) × (b ≡ status.Leak))

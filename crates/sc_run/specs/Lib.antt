@@ -1,8 +1,10 @@
 pub mod Answer
 pub mod Ends
+pub mod Headline
 pub mod Loads
 pub mod Public
 pub mod Report
 pub mod Stages
 pub mod Status
+pub mod Typed
 pub mod Words

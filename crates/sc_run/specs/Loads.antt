@@ -7,7 +7,7 @@ use Rattle.sc_texts.specs.Refused.{IsRefusedAs}
 use Rattle.sc_texts.specs.declared.syntax_err.SyntaxErr.{SyntaxErr}
 use Rattle.sc_run.specs.declared.limits.TheConstants.{MOST_FILE_BYTES}
 use Rattle.sc_run.specs.declared.refusal.Refusal.{Refusal}
-use Rattle.sc_run.specs.declared.refusal.Refusal.TheVariants.{Usage, Missing, TooLong, Text, NotBuilt}
+use Rattle.sc_run.specs.declared.refusal.Refusal.TheVariants.{Usage, Missing, TooLong, Text, SpecTypes, ScriptTypes}
 use Rattle.sc_run.specs.declared.stop.Stop.TheVariants.{Refused, ReadFault, OutOfMemory}
 use Rattle.sc_run.specs.Stages.{Stage, Then, Judges}
 
@@ -17,7 +17,8 @@ IsNotGiven told name (Missing n) = (n ≡ name) × IfSome told (λ files. files 
 IsNotGiven told name (TooLong n) = (n ≡ name) × IfSome told (λ files. IsSomeAnd (files name) (λ text. MOST_FILE_BYTES < length text))
 IsNotGiven told name Usage = ⊥
 IsNotGiven told name (Text n err) = ⊥
-IsNotGiven told name NotBuilt = ⊥
+IsNotGiven told name (SpecTypes n err) = ⊥
+IsNotGiven told name (ScriptTypes n fault) = ⊥
 
 -- The shelf gives the file of that name. Where it tells its files, it is that file.
 abbrev pub Fetches : Option Files → List ℕ → Stage (List ℕ)

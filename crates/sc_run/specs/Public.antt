@@ -1,10 +1,10 @@
 -- The words of this crate's public contracts.
 pub use Rattle.sc_run.specs.Status.{code_of}
-pub use Rattle.sc_run.specs.Stages.{Stage, Then, Judges, stop_of}
+pub use Rattle.sc_run.specs.Stages.{Stage, Then, Judges}
 pub use Rattle.sc_run.specs.Words.{Names, names_of, is_operand, command_of}
 pub use Rattle.sc_run.specs.Loads.{IsNotGiven, Fetches, Reads, Loads}
-pub use Rattle.sc_run.specs.Answer.{Commands, AreSmall, Checks, ChecksFiles, Runs, IsAnswer, refusal_status, outcome_status, status_of, refusal_text, outcome_text, text_of}
-pub use Rattle.sc_run.specs.Report.{usage_text, missing_text, too_long_text, cause_text, syntax_text, not_built_text, accepted_text}
-pub use Rattle.sc_run.specs.Report.{witness_text, leak_line, row_line, principal_line, right_text}
-pub use Rattle.sc_run.specs.Report.{database_text, table_text, record_text, row_text, row_text_after, value_text, escape}
+pub use Rattle.sc_run.specs.Typed.{after_command, schema_before, model_name, field_name, field_user_text, model_user_text, used_by_text, user_of, TypesSpec, HasFault, TypesScript}
+pub use Rattle.sc_run.specs.Answer.{Commands, AsksFiles, Asks, IsChecked, Checks, Runs, IsAnswer, refusal_status, outcome_status, status_of, refusal_text, outcome_text, text_of, AreAlike}
+pub use Rattle.sc_run.specs.Report.{usage_text, missing_text, too_long_text, cause_text, syntax_text, still_used_text, expanded_text, types_text, spec_types_text, command_text, script_types_text, accepted_text}
 pub use Rattle.sc_run.specs.Ends.{IsPut, Ends, IsSilent, IsOfUsage}
+pub use Rattle.sc_run.specs.Headline.{IsReal, ShowsLeak, IsDecided, Headline}

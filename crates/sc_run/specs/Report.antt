@@ -1,56 +1,14 @@
--- The texts that the program prints.
-use Rattle.std.specs.Prelude.{ℕ, true, false, ◌||◌, ◌==◌, nat_lt, ◌/◌, ◌%◌, List, [], ◌∷◌, ◌++◌, codes, if◌then◌else◌}
-use Rattle.std.specs.Char.{digit_char}
-use Rattle.std.specs.Fmt.{decimal, signed_decimal}
-use Rattle.std.specs.List.{concat, flat_map}
-use Rattle.sc_ast.specs.declared.models.FieldDef.{FieldDef}
-use Rattle.sc_ast.specs.declared.models.ModelDef.{ModelDef}
-use Rattle.sc_ast.specs.declared.models.Spec.{Spec}
-use Rattle.sc_check.specs.declared.outcome.Right.{Right}
-use Rattle.sc_check.specs.declared.outcome.Right.TheVariants.{Read, Write}
-use Rattle.sc_check.specs.Access.{Target}
-use Rattle.sc_check.specs.Database.{Value, Flag, Num, Str, Record, Table, Database}
-use Rattle.sc_check.specs.Witness.{Witness}
+-- The reports of one line, each with its end. sc_witness has the text of a witness, sc_witness_text the reports on an obligation that is not
+-- decided.
+use Rattle.std.specs.Prelude.{ℕ, List, [], ◌∷◌, codes}
+use Rattle.std.specs.Fmt.{decimal}
+use Rattle.std.specs.List.{concat}
 use Rattle.sc_texts.specs.declared.syntax_err.SyntaxErr.{SyntaxErr}
 use Rattle.sc_texts.specs.declared.syntax_err.SyntaxErr.TheVariants as err
 use Rattle.sc_texts.specs.declared.syntax_err.What.TheVariants as what
-
--- ---- values and databases
-
--- a byte inside quotes: `\"`, `\\`, `\n`, `\r`, `\t`, `\xhh` for another control byte, and itself else
-abbrev pub escape : ℕ → List ℕ
-escape b =
-    if b == 34 then codes "\\\"" else (if b == 92 then codes "\\\\" else (if b == 10 then codes "\\n" else (if b == 13 then codes "\\r" else (if b == 9 then codes "\\t"
-    else (if nat_lt b 32 || b == 127 then codes "\\x" ++ digit_char (b / 16) ∷ digit_char (b % 16) ∷ [] else b ∷ [])))))
-
-abbrev pub value_text : Value → List ℕ
-value_text (Flag true) = codes "true"
-value_text (Flag false) = codes "false"
-value_text (Num n) = signed_decimal n
-value_text (Str bytes) = codes "\"" ++ flat_map escape bytes ++ codes "\""
-
--- `name: value` for each field, with what stands before each but the first
-abbrev pub row_text_after : List ℕ → List FieldDef → List Value → List ℕ
-row_text_after before (f ∷ fields) (v ∷ values) = concat (before ∷ f.name ∷ codes ": " ∷ value_text v ∷ []) ++ row_text_after (codes ", ") fields values
-row_text_after before [] values = []
-row_text_after before (f ∷ fields) [] = []
-
-abbrev pub row_text : List FieldDef → List Value → List ℕ
-row_text = row_text_after []
-
-abbrev pub record_text : List FieldDef → Record → List ℕ
-record_text fields r = concat (codes "  @" ∷ decimal r.id ∷ codes " {" ∷ row_text fields r.values ∷ codes "}\n" ∷ [])
-
-unfoldable pub table_text : ModelDef → Table → List ℕ
-table_text m t = concat (m.name ∷ codes " @" ∷ decimal t.next ∷ codes " {\n" ∷ flat_map (record_text m.fields) t.records ∷ codes "}\n" ∷ [])
-
--- the tables in the order of the specification
-abbrev pub database_text : List ModelDef → Database → List ℕ
-database_text (m ∷ models) (t ∷ tables) = table_text m t ++ database_text models tables
-database_text [] tables = []
-database_text (m ∷ models) [] = []
-
--- ---- reports, each line with its end
+use Rattle.sc_typing.specs.declared.type_err.TypeErr.{TypeErr}
+use Rattle.sc_typing.specs.declared.type_err.TypeErr.TheVariants as types
+use Rattle.sc_run.specs.declared.fault.Fault.{Fault}
 
 abbrev pub usage_text : List ℕ
 usage_text = codes "usage: check SPEC SCRIPT\n"
@@ -61,9 +19,9 @@ missing_text name = concat (codes "missing " ∷ name ∷ codes "\n" ∷ [])
 abbrev pub too_long_text : List ℕ → List ℕ
 too_long_text name = concat (codes "too long " ∷ name ∷ codes "\n" ∷ [])
 
--- the cause for which the text of a file is refused, with its place
+-- the cause for which a file, or a command of it, is refused, with its place
 abbrev pub cause_text : List ℕ → List ℕ → ℕ → List ℕ
-cause_text name cause place = concat (name ∷ codes ": " ∷ cause ∷ decimal place ∷ codes "\n" ∷ [])
+cause_text of cause place = concat (of ∷ codes ": " ∷ cause ∷ decimal place ∷ codes "\n" ∷ [])
 
 abbrev pub syntax_text : List ℕ → SyntaxErr → List ℕ
 syntax_text name (err.NotText at) = cause_text name (codes "not text at ") at
@@ -82,29 +40,37 @@ syntax_text name (err.TooMany what.TextBytes at) = cause_text name (codes "too m
 -- no text is refused so
 syntax_text name err.OutOfMemory = concat (name ∷ codes ": out of memory\n" ∷ [])
 
--- of two files that cannot be decided yet
-abbrev pub not_built_text : List ℕ
-not_built_text = codes "not built\n"
+-- a thing that is removed and still used by this user
+abbrev pub still_used_text : List ℕ → ℕ → List ℕ → List ℕ
+still_used_text of at user = concat (of ∷ codes ": still used at " ∷ decimal at ∷ codes " by " ∷ user ∷ codes "\n" ∷ [])
+
+-- what becomes too large a formula
+abbrev pub expanded_text : List ℕ → ℕ → ℕ → List ℕ
+expanded_text of at count = concat (of ∷ codes ": expanded " ∷ decimal count ∷ codes " at " ∷ decimal at ∷ codes "\n" ∷ [])
+
+-- a fault of typing, with who still uses a thing
+abbrev pub types_text : List ℕ → List ℕ → TypeErr → List ℕ
+types_text of user (types.Unknown at) = cause_text of (codes "unknown at ") at
+types_text of user (types.Twice at) = cause_text of (codes "twice at ") at
+types_text of user (types.WrongType at) = cause_text of (codes "wrong type at ") at
+types_text of user (types.NotPrincipal at) = cause_text of (codes "not principal at ") at
+types_text of user (types.StillUsed at by) = still_used_text of at user
+types_text of user (types.EmptyReason at) = cause_text of (codes "empty reason at ") at
+types_text of user (types.Expanded at count) = expanded_text of at count
+types_text of user (types.Crowded at) = cause_text of (codes "crowded at ") at
+-- nothing is refused so
+types_text of user types.OutOfMemory = concat (of ∷ codes ": out of memory\n" ∷ [])
+
+-- a specification removes nothing that is still used
+abbrev pub spec_types_text : List ℕ → TypeErr → List ℕ
+spec_types_text name err = types_text name [] err
+
+-- a command of the script in the file
+abbrev pub command_text : List ℕ → ℕ → List ℕ
+command_text name command = concat (name ∷ codes ": command " ∷ decimal command ∷ [])
+
+abbrev pub script_types_text : List ℕ → Fault → List ℕ
+script_types_text name fault = types_text (command_text name fault.command) fault.user fault.err
 
 abbrev pub accepted_text : ℕ → List ℕ
 accepted_text obligations = concat (codes "accepted obligations " ∷ decimal obligations ∷ codes "\n" ∷ [])
-
-abbrev pub right_text : Right → List ℕ
-right_text Read = codes "read"
-right_text Write = codes "write"
-
-unfoldable pub leak_line : ℕ → Target → Right → List ℕ
-leak_line command target right =
-    concat (codes "leak command " ∷ decimal command ∷ codes " field " ∷ target.model ∷ codes "." ∷ target.field ∷ codes " right " ∷ right_text right ∷ codes "\n" ∷ [])
-
-unfoldable pub row_line : List ℕ → ℕ → List ℕ
-row_line model row = concat (codes "row " ∷ model ∷ codes " @" ∷ decimal row ∷ codes "\n" ∷ [])
-
-unfoldable pub principal_line : List ℕ → List ℕ
-principal_line who = concat (codes "principal " ∷ who ∷ codes "\n" ∷ [])
-
--- the witness of a leak
-abbrev pub witness_text : Spec → Witness → List ℕ
-witness_text s w =
-    concat (leak_line w.command w.target w.right ∷ row_line w.target.model w.row ∷ principal_line w.who
-    ∷ codes "database\n" ∷ database_text s.models w.base ∷ codes "end\n" ∷ [])

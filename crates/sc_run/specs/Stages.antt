@@ -1,9 +1,6 @@
 -- Stages, one after another: the first that stops decides, else what the last one passes on.
 use Rattle.std.specs.Prelude.{◌≡◌, ⊤, Result, Ok, Err}
-use Rattle.sc_small.specs.declared.unfit.Unfit.{Unfit}
-use Rattle.sc_small.specs.declared.unfit.Unfit.TheVariants as unfit
 use Rattle.sc_run.specs.declared.refusal.Refusal.{Refusal}
-use Rattle.sc_run.specs.declared.refusal.Refusal.TheVariants.{NotBuilt}
 use Rattle.sc_run.specs.declared.stop.Stop.{Stop}
 use Rattle.sc_run.specs.declared.stop.Stop.TheVariants.{Refused, ReadFault, OutOfMemory}
 
@@ -23,7 +20,7 @@ Judges refuses passes (Err (Refused refusal)) = refuses refusal
 Judges refuses passes (Err ReadFault) = ⊥
 Judges refuses passes (Err OutOfMemory) = ⊤
 
--- why nothing goes on where a tree is not given as a small one
-abbrev pub stop_of : Unfit → Stop
-stop_of unfit.NotSmall = Refused NotBuilt
-stop_of unfit.OutOfMemory = OutOfMemory
+-- The stage comes to what a call answers, whose value stands for this one.
+abbrev pub ComesTo : {A B : Type 0} → Stage A → (B → A) → Result B Stop → Type 0
+ComesTo stage seen (Ok x) = stage (Ok (seen x))
+ComesTo stage seen (Err stop) = stage (Err stop)

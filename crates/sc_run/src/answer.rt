@@ -5,20 +5,20 @@ ghost use Rattle.sc_run.specs.Answer as spec;
 
 use crate::refusal::Refusal;
 use crate::status::Status;
-use sc_ast::Spec;
-use sc_check::Outcome;
+use sc_checker::Outcome;
+use sc_schema::TScript;
 
-/// What the check of a script against a specification found.
-#[derive(Debug, Drop)]
+/// What the check of a script found.
+#[derive(Drop)]
 pub struct Checked {
-    /// The specification, as a small one.
-    pub spec: Spec,
+    /// The script, typed over its specification.
+    pub script: TScript,
     /// The outcome of the check.
     pub outcome: Outcome,
 }
 
 /// What the program answers to its words.
-#[derive(Debug, Drop)]
+#[derive(Drop)]
 pub enum Answer {
     /// The check was done.
     Checked(Checked),
@@ -36,7 +36,7 @@ impl Refusal {
             Refusal::Missing(_) => Status::Missing,
             Refusal::TooLong(_) => Status::TooLong,
             Refusal::Text(..) => Status::TextRefused,
-            Refusal::NotBuilt => Status::NotBuilt,
+            Refusal::SpecTypes(..) | Refusal::ScriptTypes(..) => Status::TypesRefused,
         }
     }
 }
@@ -50,6 +50,8 @@ impl Answer {
             Answer::Checked(checked) => match checked.outcome {
                 Outcome::Accepted { .. } => Status::Done,
                 Outcome::Leak(_) => Status::Leak,
+                Outcome::Undecided { .. } => Status::Undecided,
+                Outcome::TooLarge { .. } => Status::TooLarge,
             },
             Answer::Refused(refusal) => refusal.status(),
         }

@@ -1,8 +1,9 @@
 //! The program as one call.
 //!
 //! `run` answers the words of the command line over the objects that it is handed: a shelf of files
-//! and a sink for the report. It goes through stages: the words, each file in turn, and the check
-//! of the two trees. The first stage that refuses decides, else the outcome of the check.
+//! and a sink for the report. It goes through stages: the words, the text and the types of each
+//! file in turn, and the check of the script. The first stage that refuses decides, else the outcome
+//! of the check.
 //!
 //! | module | holds |
 //! |---|---|
@@ -10,16 +11,20 @@
 //! | `laws` | what holds of all answers, and `run` over objects that never fail |
 //! | `status` | `Status`, how a run ended |
 //! | `answer` | `Answer`, what is found or why the words are refused |
-//! | `refusal`, `stop` | `Refusal`, and `Stop`, why a stage passes nothing on |
+//! | `refusal`, `fault`, `stop` | `Refusal`, and `Stop`, why a stage passes nothing on |
 //! | `words` | the command that the words are |
 //! | `load` | the files that the words name, as trees |
 //! | `limits` | how long a file may be |
+//! | `types`, `users` | the trees with their types |
+//! | `formulas` | the formulas of obligations, for the check |
 //! | `check` | the stages of `check` |
-//! | `report`, `witness`, `pieces` | the texts that are printed |
+//! | `report`, `pieces` | the texts that are printed |
 #![tactic(auto)]
 
 mod answer;
 mod check;
+mod fault;
+mod formulas;
 mod laws;
 mod limits;
 mod load;
@@ -29,11 +34,13 @@ mod refusal;
 mod report;
 mod status;
 mod stop;
-mod witness;
+mod types;
+mod users;
 mod words;
 
 pub use answer::{Answer, Checked};
-pub use laws::{one_status, run_surely};
+pub use fault::Fault;
+pub use laws::{one_script, one_status, run_surely};
 pub use limits::MOST_FILE_BYTES;
 pub use program::run;
 pub use refusal::Refusal;

@@ -3,6 +3,7 @@
 ghost use Rattle.std.specs.Prelude.{◌≡◌, ◌≢◌, None};
 ghost use Rattle.sc_flow.specs.Outside.{IsRead, IsWritten};
 ghost use Rattle.sc_run.specs.Ends.{Ends, IsOfUsage, IsPut, IsSilent};
+ghost use Rattle.sc_run.specs.Headline.{Headline};
 ghost use Rattle.sc_run.specs.Words.{command_of};
 
 use crate::answer::Answer;
@@ -32,12 +33,15 @@ fn put_answer<W: Sink>(alloc: Global, answer: &Answer, out: &mut W) -> Status
 
 /// Checks the script of the words against the specification of the words, and writes what it
 /// finds: that no command gains anybody a right on any database of any size, or a witness of the
-/// first obligation that fails.
+/// first obligation that fails, or that this obligation could not be decided.
 ///
 /// The words are those after the program's name. The files are taken from `shelf`, the report is
 /// put into `out`, and `Status` says what each status means.
 pub fn run<F: Shelf, W: Sink>(alloc: Global, words: &[Txt], shelf: &mut F, out: &mut W) -> Status
     ensures ends { Ends (F.told shelf.old) words.now (W.told out.old) (W.told out.new) result }
+
+    // What the status says of the script in the files.
+    ensures headline { Headline (F.told shelf.old) words.now (W.told out.old) (W.told out.new) result }
 
     // The shelf is read and the output is written; where the words are no command, nothing is read.
     ensures shelf { IsRead F.told F.faults shelf.old shelf.new (result ≡ Status.ReadFault) }

@@ -1,7 +1,9 @@
 //! Why the words are refused.
 
+use crate::fault::Fault;
 use sc_ast::Txt;
 use sc_texts::SyntaxErr;
+use sc_typing::TypeErr;
 use thiserror::Error;
 
 /// Why the words get no outcome, with the name of the file where it is about one.
@@ -19,7 +21,10 @@ pub enum Refusal {
     /// The text of the file spells no tree of the language, for this cause.
     #[error("a file is refused: {1}")]
     Text(Txt, SyntaxErr),
-    /// The two files cannot be decided by what is built.
-    #[error("the files cannot be decided yet")]
-    NotBuilt,
+    /// The specification in the file is not well typed, for this fault.
+    #[error("a specification is refused: {1}")]
+    SpecTypes(Txt, TypeErr),
+    /// The script in the file is not well typed, for this fault.
+    #[error("a script is refused")]
+    ScriptTypes(Txt, Fault),
 }

@@ -1,24 +1,28 @@
 //! The texts that the program prints.
 
 ghost use Rattle.std.specs.Prelude.{◌≡◌, IfOk};
-ghost use Rattle.sc_run.specs.Answer.{refusal_text, text_of};
+ghost use Rattle.sc_checker.specs.Views.{outcome_data};
+ghost use Rattle.sc_run.specs.Answer.{outcome_text, refusal_text, text_of};
 ghost use Rattle.sc_run.specs.Report as spec;
+ghost use Rattle.sc_schema.specs.SchemaViews.{script_of};
 ghost use Rattle.sc_texts.specs.declared.syntax_err.SyntaxErr.TheVariants.{TooMany};
 
 use crate::answer::{Answer, Checked};
+use crate::fault::Fault;
 use crate::pieces::join_pieces;
 use crate::refusal::Refusal;
-use crate::witness::witness_text;
-use sc_check::Outcome;
+use sc_checker::Outcome;
 use sc_texts::{SyntaxErr, What};
+use sc_typing::TypeErr;
+use sc_witness_text::{print_too_large, print_undecided, print_witness};
 use std::alloc::{AllocError, Global};
 
-/// The line on a cause for which the text of a file is refused, and its place.
-fn cause_text(alloc: Global, name: &[u8], cause: &[u8], place: u32) -> Result<Vec<u8>, AllocError>
-    ensures { IfOk result (λ text. text.items ≡ spec.cause_text name.now cause.now place) }
+/// The line on a cause for which a file, or a command of it, is refused, and its place.
+fn cause_text(alloc: Global, of: &[u8], cause: &[u8], place: u32) -> Result<Vec<u8>, AllocError>
+    ensures { IfOk result (λ text. text.items ≡ spec.cause_text of.now cause.now place) }
 {
     let number = place.to_string(alloc)?;
-    join_pieces(alloc, &[name, b": ", cause, number.as_bytes(), b"\n"])
+    join_pieces(alloc, &[of, b": ", cause, number.as_bytes(), b"\n"])
 }
 
 /// The line on something of which a file has too many.
@@ -54,6 +58,69 @@ fn syntax_text(alloc: Global, name: &[u8], err: SyntaxErr) -> Result<Vec<u8>, Al
     }
 }
 
+/// The line on a thing that is still used.
+fn still_used_text(alloc: Global, of: &[u8], at: u32, user: &[u8]) -> Result<Vec<u8>, AllocError>
+    ensures { IfOk result (λ text. text.items ≡ spec.still_used_text of.now at user.now) }
+{
+    let number = at.to_string(alloc)?;
+    join_pieces(
+        alloc,
+        &[
+            of,
+            b": still used at ",
+            number.as_bytes(),
+            b" by ",
+            user,
+            b"\n",
+        ],
+    )
+}
+
+/// The line on what becomes too large a formula.
+fn expanded_text(alloc: Global, of: &[u8], at: u32, count: u32) -> Result<Vec<u8>, AllocError>
+    ensures { IfOk result (λ text. text.items ≡ spec.expanded_text of.now at count) }
+{
+    let size = count.to_string(alloc)?;
+    let number = at.to_string(alloc)?;
+    join_pieces(
+        alloc,
+        &[
+            of,
+            b": expanded ",
+            size.as_bytes(),
+            b" at ",
+            number.as_bytes(),
+            b"\n",
+        ],
+    )
+}
+
+/// The line on a fault of typing.
+fn types_text(alloc: Global, of: &[u8], user: &[u8], err: TypeErr) -> Result<Vec<u8>, AllocError>
+    ensures { IfOk result (λ text. text.items ≡ spec.types_text of.now user.now err) }
+{
+    match err {
+        TypeErr::Unknown { at } => cause_text(alloc, of, b"unknown at ", at),
+        TypeErr::Twice { at } => cause_text(alloc, of, b"twice at ", at),
+        TypeErr::WrongType { at } => cause_text(alloc, of, b"wrong type at ", at),
+        TypeErr::NotPrincipal { at } => cause_text(alloc, of, b"not principal at ", at),
+        TypeErr::StillUsed { at, .. } => still_used_text(alloc, of, at, user),
+        TypeErr::EmptyReason { at } => cause_text(alloc, of, b"empty reason at ", at),
+        TypeErr::Expanded { at, count } => expanded_text(alloc, of, at, count),
+        TypeErr::Crowded { at } => cause_text(alloc, of, b"crowded at ", at),
+        TypeErr::OutOfMemory => join_pieces(alloc, &[of, b": out of memory\n"]),
+    }
+}
+
+/// The line on the fault of a script.
+fn script_types_text(alloc: Global, name: &[u8], fault: &Fault) -> Result<Vec<u8>, AllocError>
+    ensures { IfOk result (λ text. text.items ≡ spec.script_types_text name.now fault.now) }
+{
+    let number = fault.command.to_string(alloc)?;
+    let of = join_pieces(alloc, &[name, b": command ", number.as_bytes()])?;
+    types_text(alloc, of.as_slice(), fault.user.as_slice(), fault.err)
+}
+
 /// The line on a refusal.
 fn refusal_text(alloc: Global, refusal: &Refusal) -> Result<Vec<u8>, AllocError>
     ensures { IfOk result (λ text. text.items ≡ refusal_text refusal.now) }
@@ -63,7 +130,8 @@ fn refusal_text(alloc: Global, refusal: &Refusal) -> Result<Vec<u8>, AllocError>
         Refusal::Missing(name) => join_pieces(alloc, &[b"missing ", name.bytes(), b"\n"]),
         Refusal::TooLong(name) => join_pieces(alloc, &[b"too long ", name.bytes(), b"\n"]),
         Refusal::Text(name, err) => syntax_text(alloc, name.bytes(), *err),
-        Refusal::NotBuilt => join_pieces(alloc, &[b"not built\n"]),
+        Refusal::SpecTypes(name, err) => types_text(alloc, name.bytes(), b"", *err),
+        Refusal::ScriptTypes(name, fault) => script_types_text(alloc, name.bytes(), fault),
     }
 }
 
@@ -75,15 +143,28 @@ fn accepted_text(alloc: Global, obligations: u64) -> Result<Vec<u8>, AllocError>
     join_pieces(alloc, &[b"accepted obligations ", number.as_bytes(), b"\n"])
 }
 
+/// The report on the outcome of a script.
+fn outcome_text(alloc: Global, checked: &Checked) -> Result<Vec<u8>, AllocError>
+    ensures { IfOk result (λ text. text.items
+        ≡ outcome_text (script_of checked.now.script) (outcome_data checked.now.outcome)) }
+{
+    let t = &checked.script;
+    match &checked.outcome {
+        Outcome::Accepted { duties } => accepted_text(alloc, *duties),
+        Outcome::Leak(w) => print_witness(alloc, w, t),
+        Outcome::Undecided { duty, cycle } => print_undecided(alloc, *duty, cycle.as_slice(), t),
+        Outcome::TooLarge { duty, terms, nodes } => {
+            print_too_large(alloc, *duty, *terms, *nodes, t)
+        }
+    }
+}
+
 /// The report of the answer.
 pub fn report_of(alloc: Global, answer: &Answer) -> Result<Vec<u8>, AllocError>
     ensures { IfOk result (λ text. text.items ≡ text_of answer.now) }
 {
     match answer {
         Answer::Refused(refusal) => refusal_text(alloc, refusal),
-        Answer::Checked(Checked { spec, outcome }) => match outcome {
-            Outcome::Accepted { duties } => accepted_text(alloc, *duties),
-            Outcome::Leak(leak) => witness_text(alloc, spec, leak),
-        },
+        Answer::Checked(checked) => outcome_text(alloc, checked),
     }
 }

@@ -17,8 +17,15 @@ pub enum Status {
     Missing = 3,
     /// A file spells no tree of the language.
     TextRefused = 4,
-    /// A command gains somebody a right; the witness is printed.
+    /// A file spells a tree that is not well typed.
+    TypesRefused = 5,
+    /// A command gains somebody a right, or lets somebody read what nobody let them read; the
+    /// witness is printed.
     Leak = 6,
+    /// An obligation could not be decided: its formula is not stratified.
+    Undecided = 7,
+    /// The formula of an obligation is too large.
+    TooLarge = 8,
     /// The shelf met a fault.
     ReadFault = 10,
     /// The output met a fault: of the report of another status a front was written.
@@ -27,8 +34,6 @@ pub enum Status {
     OutOfMemory = 13,
     /// A file is above the limit.
     TooLong = 14,
-    /// Both files are read, and cannot be decided by what is built.
-    NotBuilt = 15,
 }
 
 impl Status {

@@ -1,11 +1,9 @@
 //! Why a stage passes nothing on.
 
 ghost use Rattle.std.specs.Prelude.{◌≡◌};
-ghost use Rattle.sc_run.specs.Stages.{stop_of};
 ghost use Rattle.sc_run.specs.declared.stop.Stop.TheVariants.{OutOfMemory};
 
 use crate::refusal::Refusal;
-use sc_small::Unfit;
 use std::alloc::AllocError;
 use thiserror::Error;
 
@@ -28,16 +26,5 @@ impl From<AllocError> for Stop {
 
     fn from(_error: AllocError) -> Stop {
         Stop::OutOfMemory
-    }
-}
-
-impl From<Unfit> for Stop {
-    ghost from_gives = { λ unfit stop. stop ≡ stop_of unfit };
-
-    fn from(unfit: Unfit) -> Stop {
-        match unfit {
-            Unfit::NotSmall => Stop::Refused(Refusal::NotBuilt),
-            Unfit::OutOfMemory => Stop::OutOfMemory,
-        }
     }
 }

@@ -12,13 +12,18 @@ use std::alloc::{AllocError, Global};
 use std::io;
 
 /// The words of the commands, in the order in which README.md shows them.
-const COMMANDS: [&[&str]; 7] = [
+const COMMANDS: [&[&str]; 12] = [
     &["check", "notes.spec", "robots.scm"],
-    &["check", "notes.spec", "readers.scm"],
-    &["check", "clinic.spec", "billing.scm"],
-    &["check", "clinic.spec", "billing-mended.scm"],
+    &["check", "groups.spec", "minutes.scm"],
+    &["check", "groups.spec", "minutes-mended.scm"],
+    &["check", "groups.spec", "open-house.scm"],
+    &["check", "groups.spec", "digest.scm"],
     &["check", "clinic.spec", "slip.scm"],
-    &["check", "clinic.spec", "unbuilt.scm"],
+    &["check", "groups.spec", "mistyped.scm"],
+    &["check", "managers.spec", "managers.scm"],
+    &["check", "wide.spec", "wide.scm"],
+    &["check", "notes.spec", "readers.scm"],
+    &["check", "app.spec", "app.scm"],
     &["check", "clinic.spec"],
 ];
 

@@ -7,6 +7,7 @@ use std::alloc::{AllocError, Global};
 use std::test::Fail;
 
 mod faults;
+mod grown;
 mod rows;
 mod sizes;
 mod surely;
@@ -59,7 +60,7 @@ fn run_failing(
 ) -> Result<Ended, Fail> {
     let words = words_of(alloc, words)?;
     let mut shelf = shelf_of(alloc, files, fetches)?;
-    let mut out = MemSink::new(alloc, 8192, 7, Vec::from_slice(alloc, puts)?)?;
+    let mut out = MemSink::new(alloc, 65_536, 7, Vec::from_slice(alloc, puts)?)?;
     let status = run(alloc, words.as_slice(), &mut shelf, &mut out);
     Ok(Ended {
         status,

@@ -5,7 +5,7 @@ use sc_run::Status;
 use std::alloc::Global;
 use std::test::Fail;
 
-const FILES: [File<'static>; 7] = [
+const FILES: [File<'static>; 8] = [
     File {
         name: "n.spec",
         text: b"model Note {create: none, delete: none, body: Text {read: none, write: none}}",
@@ -34,6 +34,10 @@ const FILES: [File<'static>; 7] = [
         name: "u.scm",
         text: b"DeleteModel(Note)",
     },
+    File {
+        name: "twice.scm",
+        text: b"AddStatic(A) AddStatic(A)",
+    },
 ];
 
 /// What the first words do over the files, where the calls of these numbers fail.
@@ -57,7 +61,7 @@ fn ends_so(alloc: Global, row: &Row) -> Result<bool, Fail> {
 }
 
 /// Each refusal in its turn. What was not due yet is not fetched, and so meets no fault.
-const REFUSALS: [Row; 15] = [
+const REFUSALS: [Row; 16] = [
     Row {
         words: &[],
         fetches: &[0],
@@ -146,16 +150,25 @@ const REFUSALS: [Row; 15] = [
         output: b"missing nowhere\n",
         fetched: 2,
     },
+    // The types of the specification are judged before the script is due.
     Row {
         words: &["check", "twice.spec", "nowhere"],
-        fetches: &[],
+        fetches: &[1],
         puts: &[],
-        status: Status::Missing,
-        output: b"missing nowhere\n",
-        fetched: 2,
+        status: Status::TypesRefused,
+        output: b"twice.spec: twice at 22\n",
+        fetched: 1,
     },
     Row {
         words: &["check", "twice.spec", "slip.scm"],
+        fetches: &[],
+        puts: &[],
+        status: Status::TypesRefused,
+        output: b"twice.spec: twice at 22\n",
+        fetched: 1,
+    },
+    Row {
+        words: &["check", "n.spec", "slip.scm"],
         fetches: &[],
         puts: &[],
         status: Status::TextRefused,
@@ -163,19 +176,19 @@ const REFUSALS: [Row; 15] = [
         fetched: 2,
     },
     Row {
-        words: &["check", "n.spec", "u.scm"],
-        fetches: &[],
+        words: &["check", "n.spec", "twice.scm"],
+        fetches: &[2],
         puts: &[],
-        status: Status::NotBuilt,
-        output: b"not built\n",
+        status: Status::TypesRefused,
+        output: b"twice.scm: command 2: twice at 23\n",
         fetched: 2,
     },
     Row {
-        words: &["check", "twice.spec", "s.scm"],
-        fetches: &[2],
+        words: &["check", "n.spec", "u.scm"],
+        fetches: &[],
         puts: &[],
-        status: Status::NotBuilt,
-        output: b"not built\n",
+        status: Status::Done,
+        output: b"accepted obligations 0\n",
         fetched: 2,
     },
 ];

@@ -110,14 +110,12 @@ fn scripts(alloc: Global, sizes: Sizes, read: &[u8]) -> Result<(Vec<u8>, Vec<u8>
     Ok((kept, loosened))
 }
 
-/// The first lines of the report on the loosened script.
+/// The first line of the report on the loosened script.
 fn leak(alloc: Global, sizes: Sizes) -> Result<Vec<u8>, AllocError> {
     let mut text = Vec::new(alloc);
     text.extend_from_slice(b"leak command ")?;
     push_number(alloc, &mut text, sizes.commands)?;
-    text.extend_from_slice(b" field M0.f0 right write\nrow M0 @1\nprincipal ")?;
-    push_static(&mut text, sizes.statics.saturating_sub(1))?;
-    text.extend_from_slice(b"\ndatabase\nM0 @2 {\n  @1 {f0: 0")?;
+    text.extend_from_slice(b" field M0.f0 right write\n")?;
     Ok(text)
 }
 
@@ -161,11 +159,124 @@ fn pairs_of_all_sizes(rt: HostRuntime) -> Result<(), Fail> {
         ),
         (Sizes::new(4, 1, 1, 1), b"accepted obligations 8\n"),
         (Sizes::new(9, 3, 2, 5), b"accepted obligations 90\n"),
-        (Sizes::new(27, 8, 16, 40), b"accepted obligations 2160\n"),
-        (Sizes::new(64, 64, 64, 256), b"accepted obligations 32768\n"),
+        (Sizes::new(27, 8, 16, 4), b"accepted obligations 216\n"),
+        (Sizes::new(2, 64, 64, 2), b"accepted obligations 8\n"),
+        (Sizes::new(2, 1, 1, 256), b"accepted obligations 1024\n"),
     ];
     for (sizes, accepted) in rows {
         assert!(rt; answers_so(rt.alloc(), sizes, accepted)?);
+    }
+    Ok(())
+}
+
+/// A model with so many fields that are ids of another, of which the names begin with a letter.
+fn push_links(
+    alloc: Global,
+    text: &mut Vec<u8>,
+    model: &[u8],
+    letter: &[u8],
+    of: &[u8],
+    count: u16,
+) -> Result<(), AllocError> {
+    text.extend_from_slice(b"model ")?;
+    text.extend_from_slice(model)?;
+    text.extend_from_slice(b"{create:none,delete:none")?;
+    for number in 0..count {
+        text.extend_from_slice(b",")?;
+        text.extend_from_slice(letter)?;
+        push_number(alloc, text, number)?;
+        text.extend_from_slice(b":Id(")?;
+        text.extend_from_slice(of)?;
+        text.extend_from_slice(b"){read:none,write:none}")?;
+    }
+    text.extend_from_slice(b"}")
+}
+
+/// A secret that is read along so many pairs of fields.
+fn linked(alloc: Global, count: u16) -> Result<Vec<u8>, AllocError> {
+    let mut text = Vec::new(alloc);
+    push_links(alloc, &mut text, b"A", b"f", b"B", count)?;
+    push_links(alloc, &mut text, b"B", b"g", b"C", count)?;
+    text.extend_from_slice(b"principal model C{create:none,delete:none,secret:Text{read:")?;
+    text.extend_from_slice(b"c->A::Find({}).flat_map(a->[a.f0.g0")?;
+    for number in 1..count {
+        text.extend_from_slice(b",a.f")?;
+        push_number(alloc, &mut text, number)?;
+        text.extend_from_slice(b".g")?;
+        push_number(alloc, &mut text, number)?;
+    }
+    text.extend_from_slice(b"]),write:none}}")?;
+    Ok(text)
+}
+
+#[test]
+fn formulas_up_to_the_limit(rt: HostRuntime) -> Result<(), Fail> {
+    let script = b"C::UpdateFieldPolicy(secret,{read:public})";
+    let rows = [
+        (
+            18,
+            Status::Leak,
+            b"leak command 1 field C.secret right read\n".as_slice(),
+        ),
+        (
+            19,
+            Status::TooLarge,
+            b"too large command 1 field C.secret right read kind C terms 404 nodes 120\n",
+        ),
+        (
+            20,
+            Status::TooLarge,
+            b"too large command 1 field C.secret right read kind C terms 445 nodes 126\n",
+        ),
+    ];
+    for (count, status, front) in rows {
+        let spec = linked(rt.alloc(), count)?;
+        let ended = check(rt.alloc(), spec.as_slice(), script)?;
+        assert_eq!(rt; ended.status, status);
+        assert!(rt; ended.output.as_slice().starts_with(front));
+    }
+    Ok(())
+}
+
+/// An initialiser in which a flag stands two to the power of `times` times.
+fn doubled(alloc: Global, times: u32) -> Result<Vec<u8>, AllocError> {
+    let mut part = Vec::from_slice(alloc, b"u.isAdmin == u.isAdmin")?;
+    for _ in 1..times {
+        let mut next = Vec::from_slice(alloc, b"(")?;
+        next.extend_from_slice(part.as_slice())?;
+        next.extend_from_slice(b") == (")?;
+        next.extend_from_slice(part.as_slice())?;
+        next.extend_from_slice(b")")?;
+        part = next;
+    }
+    let head = b"User::AddField(eq: Bool {read: none, write: none}, u -> ";
+    let mut script = Vec::from_slice(alloc, head)?;
+    script.extend_from_slice(part.as_slice())?;
+    script.extend_from_slice(b")")?;
+    Ok(script)
+}
+
+#[test]
+fn initialisers_up_to_the_limit(rt: HostRuntime) -> Result<(), Fail> {
+    let spec = b"principal model User {
+  create: public,
+  delete: none,
+  isAdmin: Bool {read: public, write: none},
+}
+";
+    let rows = [
+        (6, Status::Done, b"accepted obligations 64\n".as_slice()),
+        (
+            7,
+            Status::TypesRefused,
+            b"s.scm: command 1: expanded 49535 at 56\n",
+        ),
+    ];
+    for (times, status, report) in rows {
+        let script = doubled(rt.alloc(), times)?;
+        let ended = check(rt.alloc(), spec, script.as_slice())?;
+        assert_eq!(rt; ended.status, status);
+        assert!(rt; ended.output.as_slice() == report);
     }
     Ok(())
 }

@@ -63,33 +63,63 @@ const USERS: &[u8] = b"principal model User {
   create: public,
   delete: none,
   email: Text {read: public, write: u -> [u]},
+  isAdmin: Bool {read: public, write: none},
+  age: Int {read: public, write: none},
+  open: Bool {read: public, write: none},
+  manager: Id(User) {read: public, write: none},
+  boss: Option(Id(User)) {read: public, write: none},
   secret: Text {read: u -> User::Find({isAdmin: true}) - [u.manager], write: none},
   friends: Set(Id(User)) {read: u -> (if u.open then public else [u]), write: none},
 }
+model Team {create: none, delete: none}
 ";
 
-/// Each is read, and cannot be decided yet.
+/// Each is read, and decided.
 #[test]
 fn texts_that_are_read(rt: HostRuntime) -> Result<(), Fail> {
     let scripts = [
-        b"User::AddField(big: Int {read: none, write: none}, u -> -9223372036854775808)".as_slice(),
-        b"User::AddField(big: Int {read: none, write: none}, u -> 9223372036854775807)",
-        b"AddStatic(A) RemoveStatic(A) AddPrincipal(User) DeleteModel(User)",
-        b"CreateModel(model Grant {create: none, delete: g -> [g.user],
+        (
+            b"User::AddField(big: Int {read: none, write: none}, u -> -9223372036854775808)".as_slice(),
+            b"accepted obligations 0\n".as_slice(),
+        ),
+        (
+            b"User::AddField(big: Int {read: none, write: none}, u -> 9223372036854775807)",
+            b"accepted obligations 0\n",
+        ),
+        (
+            b"AddStatic(A) RemoveStatic(A) AddPrincipal(Team) DeleteModel(Team)",
+            b"accepted obligations 0\n",
+        ),
+        (
+            b"CreateModel(model Grant {create: none, delete: g -> [g.user],
             user: Id(User) {read: none, write: none},})",
-        b"User::WeakenFieldPolicy(email, {write: public}, \"open \\x07 house\")",
-        b"User::UpdatePolicy({create: none, delete: u -> u.friends.map(x -> x.boss)})
-            User::WeakenPolicy({delete: public}, \"\")",
-        b"User::AddField(of: Set(Id(User)) {read: none, write: none},
+            b"accepted obligations 0\n",
+        ),
+        (
+            b"User::WeakenFieldPolicy(email, {write: public}, \"open \\x07 house\")",
+            b"accepted obligations 0\n",
+        ),
+        (
+            b"User::WeakenPolicy({delete: u -> u.friends.map(x -> x.manager)}, \"friends\")
+            User::UpdatePolicy({create: none, delete: u -> u.friends.map(x -> x.manager)})",
+            b"accepted obligations 2\n",
+        ),
+        (
+            b"User::AddField(of: Set(Id(User)) {read: none, write: none},
             u -> match u.boss with none -> [] | some b -> b.friends)",
-        b"User::AddField(same: Bool {read: none, write: none}, u -> !(u.age < -1)
-            && u in {User::Find({age >= 17, tags has u})} || u in u.friends)",
-        b"User::RemoveField(email)",
+            b"accepted obligations 2\n",
+        ),
+        (
+            b"User::AddField(same: Bool {read: none, write: none}, u -> !(u.age < -1)
+            && u in {u.friends} || u in u.friends)",
+            b"accepted obligations 3\n",
+        ),
+        (b"User::RemoveField(email)", b"accepted obligations 0\n"),
     ];
-    for script in scripts {
+    for (script, output) in scripts {
         let ended = checked(rt.alloc(), USERS, script)?;
-        assert_eq!(rt; ended.status, Status::NotBuilt);
-        assert!(rt; ended.output.as_slice() == b"not built\n".as_slice());
+        assert_eq!(rt; ended.status, Status::Done);
+        assert!(rt; ended.output.as_slice() == output);
     }
     Ok(())
 }
@@ -103,6 +133,8 @@ struct Limit {
     middle: &'static [u8],
     close: &'static [u8],
     back: &'static [u8],
+    /// The status of so many: a name that stands twice is no fault of the text.
+    within: Status,
     over: &'static [u8],
 }
 
@@ -132,6 +164,7 @@ const OF_SPECIFICATIONS: [Limit; 5] = [
         middle: b"",
         close: b"",
         back: b"",
+        within: Status::TypesRefused,
         over: b"s.spec: too many statics at 576\n",
     },
     Limit {
@@ -141,6 +174,7 @@ const OF_SPECIFICATIONS: [Limit; 5] = [
         middle: b"",
         close: b"",
         back: b"",
+        within: Status::TypesRefused,
         over: b"s.spec: too many models at 2048\n",
     },
     Limit {
@@ -150,6 +184,7 @@ const OF_SPECIFICATIONS: [Limit; 5] = [
         middle: b"",
         close: b"",
         back: b",}",
+        within: Status::TypesRefused,
         over: b"s.spec: too many fields at 1824\n",
     },
     // The set inside 64 pairs of parentheses is at the level 65.
@@ -160,6 +195,7 @@ const OF_SPECIFICATIONS: [Limit; 5] = [
         middle: b"[]",
         close: b")",
         back: b"}",
+        within: Status::Done,
         over: b"s.spec: too deep at 104\n",
     },
     // The condition of the choice at the level 64 is at the level 65.
@@ -170,6 +206,7 @@ const OF_SPECIFICATIONS: [Limit; 5] = [
         middle: b"[]",
         close: b"",
         back: b"}",
+        within: Status::TypesRefused,
         over: b"s.spec: too deep at 1167\n",
     },
 ];
@@ -182,6 +219,7 @@ const OF_SCRIPTS: [Limit; 4] = [
         middle: b"",
         close: b"",
         back: b"",
+        within: Status::TypesRefused,
         over: b"s.scm: too many commands at 3072\n",
     },
     // One and two tokens each time are 1,023 and 1,025 tokens.
@@ -192,6 +230,7 @@ const OF_SCRIPTS: [Limit; 4] = [
         middle: b"",
         close: b"",
         back: b")",
+        within: Status::TypesRefused,
         over: b"s.scm: too many tokens at 1580\n",
     },
     Limit {
@@ -201,6 +240,7 @@ const OF_SCRIPTS: [Limit; 4] = [
         middle: b"",
         close: b"",
         back: b"\")",
+        within: Status::TypesRefused,
         over: b"s.scm: too many text bytes at 30\n",
     },
     Limit {
@@ -210,6 +250,7 @@ const OF_SCRIPTS: [Limit; 4] = [
         middle: b"",
         close: b"",
         back: b")",
+        within: Status::Done,
         over: b"s.scm: too many name bytes at 10\n",
     },
 ];
@@ -219,7 +260,7 @@ fn limits_of_specifications(rt: HostRuntime) -> Result<(), Fail> {
     for limit in &OF_SPECIFICATIONS {
         let at_most = limit.text(rt.alloc(), limit.most)?;
         let ended = checked(rt.alloc(), at_most.as_slice(), b"")?;
-        assert_eq!(rt; ended.status, Status::NotBuilt);
+        assert_eq!(rt; ended.status, limit.within);
         let one_more = limit.text(rt.alloc(), limit.most + 1)?;
         let ended = checked(rt.alloc(), one_more.as_slice(), b"")?;
         assert_eq!(rt; ended.status, Status::TextRefused);
@@ -233,7 +274,7 @@ fn limits_of_scripts(rt: HostRuntime) -> Result<(), Fail> {
     for limit in &OF_SCRIPTS {
         let at_most = limit.text(rt.alloc(), limit.most)?;
         let ended = checked(rt.alloc(), b"", at_most.as_slice())?;
-        assert_eq!(rt; ended.status, Status::NotBuilt);
+        assert_eq!(rt; ended.status, limit.within);
         let one_more = limit.text(rt.alloc(), limit.most + 1)?;
         let ended = checked(rt.alloc(), b"", one_more.as_slice())?;
         assert_eq!(rt; ended.status, Status::TextRefused);

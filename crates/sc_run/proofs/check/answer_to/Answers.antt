@@ -1,13 +1,13 @@
-use Rattle.std.proofs.Common.{refl}
+use Rattle.std.proofs.Common.{rules, ◌≡◌}
+use Rattle.std.specs.Prelude.{Err}
+use Rattle.sc_schema.specs.SchemaViews.{script_of}
 use Rattle.sc_run.specs.Stages.{Stops, Goes}
-use Rattle.sc_run.specs.Words.{names_of}
-use Rattle.sc_run.specs.declared.refusal.Refusal.TheVariants.{Usage}
-use Rattle.sc_run.specs.declared.stop.Stop.TheVariants.{Refused}
 use Rattle.sc_run.proofs.check.answer_to.Goals as goal
 
-pub returns-in-None-clause-answered : goal.returns-in-None-clause-answered
-returns-in-None-clause-answered g c = Stops (Refused Usage) (refl, c.in-None.ensures) refl
+pub returns-in_err-script-clause-answered : goal.returns-in_err-script-clause-answered
+returns-in_err-script-clause-answered g c =
+    let same : c.from_residual.result ≡ Err c.in_err-script.field-0.0 = search rules in
+    Stops c.in_err-script.field-0.0 c.in_err-script.ensures.asked same
 
-pub returns-in-Some-clause-answered : goal.returns-in-Some-clause-answered
-returns-in-Some-clause-answered g c =
-    Goes (names_of c.in-Some.names.spec.now c.in-Some.names.script.now) c.in-Some.ensures c.check_files.ensures.checked
+pub returns-clause-answered : goal.returns-clause-answered
+returns-clause-answered g c = Goes (script_of c.in_ok-script.script) c.in_ok-script.ensures.asked c.checked.ensures.checked

@@ -1,0 +1,38 @@
+-- What the end of a run says of the script that its words ask for.
+use Rattle.std.specs.Prelude.{◌≡◌, ◌⊎◌, ℕ, List, Option, Some, IfSome, Ok, MatchOption}
+use Rattle.sc_flow.specs.Files.{Files}
+use Rattle.sc_flow.specs.Told.{Appends}
+use Rattle.sc_schema.specs.Script.{Script}
+use Rattle.sc_eval.specs.Gain.{GainAt, FlowAt}
+use Rattle.sc_eval.specs.Secure.{IsSecure, IsStepSecure}
+use Rattle.sc_verdict.specs.Sound.{IsDecidable}
+use Rattle.sc_witness.specs.Printed.{witness_text}
+use Rattle.sc_witness.specs.Witness.{Witness}
+use Rattle.sc_run.specs.declared.status.Status.{Status}
+use Rattle.sc_run.specs.declared.status.Status.TheVariants.{Done, Leak, ReadFault, WriteFault, OutOfMemory}
+use Rattle.sc_run.specs.Answer.{Asks}
+
+-- The witness is real: on its start database its principal gains the right on its record by its command, or reads the cell there through
+-- the field that the command adds.
+abbrev pub IsReal : Script → Witness → Type 0
+IsReal t w =
+    MatchOption w.cell (GainAt t w.command w.target w.right w.base w.row w.who) (FlowAt t w.command w.base w.row w.who)
+
+-- What was put out is the text of a real witness.
+pub record ShowsLeak (t : Script) (before after : Option (List ℕ)) : Type 0 where
+  pub witness : Witness
+  pub real : IsReal t witness
+  pub shown : Appends before after (witness_text t witness)
+
+-- The script is secure and accepted, or it is not and leaks; or a fault or want of memory ended the run.
+pub data IsDecided (t : Script) (status : Status) : Type 0 where
+  Accepts : status ≡ Done → IsStepSecure t → IsDecided t status
+  Leaks : status ≡ Leak → (IsStepSecure t → ⊥) → IsDecided t status
+  Faults : (status ≡ ReadFault) ⊎ (status ≡ WriteFault) ⊎ (status ≡ OutOfMemory) → IsDecided t status
+
+-- Where the script is accepted, it is secure, at each of its commands and as a whole: on every start database, of any size. Where it leaks,
+-- a real witness is put out. Where each of its obligations can be decided, it is accepted or leaks.
+pub record Headline (told : Option Files) (words : List (List ℕ)) (before after : Option (List ℕ)) (status : Status) : Type 0 where
+  pub secure : status ≡ Done → (t : Script) × Asks told words (Ok t) × IsStepSecure t × IsSecure t
+  pub leak : status ≡ Leak → (t : Script) × Asks told words (Ok t) × ShowsLeak t before after
+  pub decided : IfSome told (λ files. (t : Script) → Asks (Some files) words (Ok t) → IsDecidable t → IsDecided t status)
