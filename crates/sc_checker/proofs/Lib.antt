@@ -1,2 +1,3 @@
 pub mod Cleared
+pub mod Kept
 pub mod Sorts

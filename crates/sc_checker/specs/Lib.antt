@@ -1,2 +1,3 @@
+pub mod Safe
 pub mod Public
 pub mod Views

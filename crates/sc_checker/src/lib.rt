@@ -3,6 +3,7 @@
 //! | module | holds |
 //! |---|---|
 //! | `formulas` | `Formulas`, what makes the formulas of obligations |
+//! | `known` | formulas that were cleared |
 //! | `outcome` | `Outcome`, what a script comes to |
 //! | `witnesses` | the witness that a structure stands for |
 //! | `obligations` | what one obligation comes to |
@@ -12,6 +13,7 @@
 #![tactic(auto)]
 
 mod formulas;
+mod known;
 mod obligations;
 mod outcome;
 mod scripts;

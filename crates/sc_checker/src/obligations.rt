@@ -1,47 +1,84 @@
 //! What one obligation comes to.
 
-ghost use Rattle.std.specs.Prelude.{◌≡◌, ◌≤◌, Contains, IfOk, MatchOption, map};
+ghost use Rattle.std.specs.Prelude.{◌≡◌, ◌≤◌, ◌*◌, [], Contains, IfOk, OnOk, MatchOption, length, map};
 ghost use Rattle.std.specs.List.{AllByRecursion};
 ghost use Rattle.sc_data.specs.Values.{last_id};
 ghost use Rattle.sc_schema.specs.Script.{IsScript};
-ghost use Rattle.sc_schema.specs.SchemaViews.{script_of};
+ghost use Rattle.sc_schema.specs.SchemaViews.{schema_of, script_of};
 ghost use Rattle.sc_decide.specs.Verdicts.{IsVerdict};
 ghost use Rattle.sc_duty.specs.Duties.{formula_of, obligations_of};
+ghost use Rattle.sc_formula.specs.Nodes.{IsFormula, formula_of as formula_at};
 ghost use Rattle.sc_formula.specs.NormalForm.{normal_form};
+ghost use Rattle.sc_formula.specs.Over.{IsOver};
 ghost use Rattle.sc_terms.specs.Satisfying.{SatisfiesWith};
 ghost use Rattle.sc_duty.specs.Over.{IsSignatureOf};
+ghost use Rattle.sc_numbering.specs.Numbers.{numbers_of};
 ghost use Rattle.sc_verdict.specs.FailsBy.{FailsBy};
 ghost use Rattle.sc_verdict.specs.Outcomes as spec;
 ghost use Rattle.sc_checker.specs.Views.{outcome_data};
 ghost use Rattle.sc_witness_text.specs.Views.{witness_data};
 
 use crate::formulas::Formulas;
+use crate::known::Known;
 use crate::outcome::Outcome;
 use crate::witnesses::witness_of;
 use sc_decide::{Verdict, decide};
 use sc_duty::Duty;
 use sc_formula::{Arena, Signature, Structure};
+use sc_numbering::Numbering;
 use sc_schema::{ModelNo, TScript};
 use sc_witness_text::Witness;
 use sqlite_items::Items;
 use std::alloc::{AllocError, Global};
+
+/// The verdict on a formula. One that is equal to a formula that was cleared is not decided again.
+#[tactic(auto, using(crate::proofs::Kept::safe_behind, crate::proofs::Kept::verdict_of))]
+fn verdict_in(
+    alloc: Global,
+    arena: Arena,
+    id: u32,
+    signature: &Signature,
+    known: &mut Known<'_>,
+) -> Result<Verdict, AllocError>
+    requires formula { IsFormula arena id }
+    requires over { IsOver signature.now [] (formula_at arena id) }
+    requires room { 3 * length arena ≤ 4000000 }
+    requires signature { known.old ≡ signature.now }
+    ensures verdict { IfOk result (IsVerdict signature.now (formula_at arena id)) }
+    ensures kept { OnOk result (known.new ≡ known.old) }
+{
+    if known.has(&arena, id) {
+        return Ok(Verdict::Safe);
+    }
+    let mut arena = arena;
+    let verdict = decide(alloc, &mut arena, id, signature)?;
+    if let Verdict::Safe = verdict {
+        known.keep(arena, id)?;
+    }
+    Ok(verdict)
+}
 
 /// The verdict on the formula of an obligation.
 fn verdict_on<F: Formulas>(
     alloc: Global,
     formulas: &F,
     t: &TScript,
+    numbering: &Numbering,
     signature: &Signature,
     duty: Duty,
+    known: &mut Known<'_>,
 ) -> Result<Verdict, AllocError>
     requires script { IsScript (script_of t.now) }
+    requires numbered { numbering.now ≡ numbers_of (schema_of t.now.start) }
     requires signature { IsSignatureOf (script_of t.now).start signature.now }
     requires listed { Contains (obligations_of (script_of t.now)) duty }
-    ensures { IfOk result (IsVerdict signature.now (formula_of (script_of t.now) duty)) }
+    requires over { known.old ≡ signature.now }
+    ensures verdict { IfOk result (IsVerdict signature.now (formula_of (script_of t.now) duty)) }
+    ensures kept { OnOk result (known.new ≡ known.old) }
 {
     let mut arena = Arena::new(alloc)?;
-    let id = formulas.formula(alloc, &mut arena, t, duty)?;
-    decide(alloc, &mut arena, id, signature)
+    let id = formulas.formula(alloc, &mut arena, t, numbering, duty)?;
+    verdict_in(alloc, arena, id, signature, known)
 }
 
 /// There are ids for the elements of each sort, since their number has 32 bits.
@@ -109,17 +146,22 @@ pub fn unsettled<F: Formulas>(
     alloc: Global,
     formulas: &F,
     t: &TScript,
+    numbering: &Numbering,
     signature: &Signature,
     duty: Duty,
+    known: &mut Known<'_>,
 ) -> Result<Option<Outcome>, AllocError>
     requires script { IsScript (script_of t.now) }
+    requires numbered { numbering.now ≡ numbers_of (schema_of t.now.start) }
     requires signature { IsSignatureOf (script_of t.now).start signature.now }
     requires listed { Contains (obligations_of (script_of t.now)) duty }
-    ensures { IfOk result (λ found. MatchOption found
+    requires over { known.old ≡ signature.now }
+    ensures settled { IfOk result (λ found. MatchOption found
         (spec.IsCleared (script_of t.now) signature.now duty)
         (λ outcome. spec.IsUnsettled (script_of t.now) signature.now duty (outcome_data outcome))) }
+    ensures kept { OnOk result (known.new ≡ known.old) }
 {
-    match verdict_on(alloc, formulas, t, signature, duty)? {
+    match verdict_on(alloc, formulas, t, numbering, signature, duty, known)? {
         Verdict::Safe => Ok(None),
         Verdict::Found(structure, picks) => {
             let w = found_witness(alloc, t, signature, duty, &structure, picks.as_slice())?;

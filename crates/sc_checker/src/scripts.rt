@@ -7,15 +7,18 @@ ghost use Rattle.sc_verdict.specs.Outcomes.{IsOutcome};
 ghost use Rattle.sc_checker.specs.Views.{outcome_data};
 
 use crate::formulas::Formulas;
+use crate::known::Known;
 use crate::obligations::unsettled;
 use crate::outcome::Outcome;
-use sc_numbering::signature_of;
+use sc_numbering::{Numbering, signature_of};
 use sc_obligations::duties;
 use sc_schema::TScript;
 use std::alloc::{AllocError, Global};
 
 /// Checks a script: its obligations are decided one after another, by formulas that are made for
-/// each, up to the first that is not cleared. What one takes of memory is given back before the next.
+/// each, up to the first that is not cleared. One whose formula was cleared already is not decided
+/// again. What one takes of memory is given back before the next, but for the latest small formulas
+/// that were cleared.
 pub fn check_script<F: Formulas>(
     alloc: Global,
     formulas: &F,
@@ -24,10 +27,14 @@ pub fn check_script<F: Formulas>(
     requires { IsScript (script_of t.now) }
     ensures { IfOk result (λ outcome. IsOutcome (script_of t.now) (outcome_data outcome)) }
 {
+    let numbering = Numbering::of(alloc, &t.start)?;
     let signature = signature_of(alloc, &t.start)?;
     let duties = duties(alloc, t)?;
+    let mut known = Known::new(alloc, &signature);
     for duty in duties.as_slice() {
-        match unsettled(alloc, formulas, t, &signature, *duty)? {
+        match unsettled(
+            alloc, formulas, t, &numbering, &signature, *duty, &mut known,
+        )? {
             Some(outcome) => return Ok(outcome),
             None => {}
         }

@@ -39,10 +39,10 @@ pub(crate) fn put_back(
     ensures arena { IfOk result (λ id. arena.new ≡ w.arena) }
     ensures room { IfOk result (λ id. 3 * length arena.new ≤ 4000000) }
 {
+    *arena = w.arena;
     let Ok(id) = made else {
         return Err(AllocError);
     };
-    *arena = w.arena;
     if arena.len() > MOST_NODES / 3 {
         return Err(AllocError);
     }

@@ -8,9 +8,9 @@ ghost use Rattle.sc_schema.specs.SchemaViews.{script_of};
 
 use crate::flows::flow_formula;
 use crate::gains::gain_formula;
+use crate::numbered::Numbered;
 use sc_duty::Duty;
 use sc_formula::Arena;
-use sc_schema::TScript;
 use std::alloc::{AllocError, Global};
 
 /// Makes the formula of an obligation of the script, in an arena that is empty, and gives its
@@ -18,17 +18,17 @@ use std::alloc::{AllocError, Global};
 pub fn duty_formula(
     alloc: Global,
     arena: &mut Arena,
-    t: &TScript,
+    of: &Numbered<'_>,
     duty: Duty,
 ) -> Result<u32, AllocError>
     requires empty { arena.old ≡ [] }
-    requires script { IsScript (script_of t.now) }
-    requires listed { Contains (obligations_of (script_of t.now)) duty }
-    ensures formula { IfOk result (λ id. StandsFor arena.new id (formula_of (script_of t.now) duty)) }
+    requires script { IsScript (script_of of.now.script.now) }
+    requires listed { Contains (obligations_of (script_of of.now.script.now)) duty }
+    ensures formula { IfOk result (λ id. StandsFor arena.new id (formula_of (script_of of.now.script.now) duty)) }
     ensures room { IfOk result (λ id. 3 * length arena.new ≤ 4000000) }
 {
     match duty.spot {
-        Some(spot) => flow_formula(alloc, arena, t, duty, spot),
-        None => gain_formula(alloc, arena, t, duty),
+        Some(spot) => flow_formula(alloc, arena, of, duty, spot),
+        None => gain_formula(alloc, arena, of, duty),
     }
 }

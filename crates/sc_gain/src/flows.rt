@@ -19,9 +19,8 @@ use crate::uses::{init_of_duty, reached_at, use_at};
 use sc_builder::Who;
 use sc_duty::Duty;
 use sc_formula::Arena;
-use sc_numbering::Numbering;
 use sc_obligations::Use;
-use sc_schema::{Kind, Right, TInit, TScript, Target};
+use sc_schema::{Kind, Right, TInit, Target};
 use sc_writer::{MakeErr, Term, Writer};
 use std::alloc::{AllocError, Global};
 
@@ -167,21 +166,16 @@ fn flow(
 pub fn flow_formula(
     alloc: Global,
     arena: &mut Arena,
-    t: &TScript,
+    of: &Numbered<'_>,
     duty: Duty,
     spot: u32,
 ) -> Result<u32, AllocError>
     requires { duty.spot ≡ Some spot }
     ensures formula { IfOk result (λ id. StandsFor arena.new id
-        (flow_formula_of (script_of t.now) duty spot)) }
+        (flow_formula_of (script_of of.now.script.now) duty spot)) }
     ensures room { IfOk result (λ id. 3 * length arena.new ≤ 4000000) }
 {
-    let numbering = Numbering::of(alloc, &t.start)?;
-    let of = Numbered {
-        script: t,
-        numbering: &numbering,
-    };
     let mut w = writer_over(alloc, arena)?;
-    let made = flow(alloc, &mut w, &of, duty, spot);
+    let made = flow(alloc, &mut w, of, duty, spot);
     put_back(arena, w, made)
 }

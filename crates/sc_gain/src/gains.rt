@@ -16,8 +16,7 @@ use crate::rights::right_at;
 use sc_builder::Who;
 use sc_duty::Duty;
 use sc_formula::Arena;
-use sc_numbering::Numbering;
-use sc_schema::{Kind, ModelNo, TScript, Target};
+use sc_schema::{Kind, ModelNo, Target};
 use sc_writer::{MakeErr, Term, Writer};
 use std::alloc::{AllocError, Global};
 
@@ -87,20 +86,15 @@ fn gain(w: &mut Writer, of: &Numbered<'_>, duty: Duty) -> Result<u32, MakeErr>
 pub fn gain_formula(
     alloc: Global,
     arena: &mut Arena,
-    t: &TScript,
+    of: &Numbered<'_>,
     duty: Duty,
 ) -> Result<u32, AllocError>
     requires { duty.spot ≡ None }
     ensures formula { IfOk result (λ id. StandsFor arena.new id
-        (gain_formula_of (script_of t.now) duty)) }
+        (gain_formula_of (script_of of.now.script.now) duty)) }
     ensures room { IfOk result (λ id. 3 * length arena.new ≤ 4000000) }
 {
-    let numbering = Numbering::of(alloc, &t.start)?;
-    let of = Numbered {
-        script: t,
-        numbering: &numbering,
-    };
     let mut w = writer_over(alloc, arena)?;
-    let made = gain(&mut w, &of, duty);
+    let made = gain(&mut w, of, duty);
     put_back(arena, w, made)
 }

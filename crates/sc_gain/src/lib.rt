@@ -24,3 +24,4 @@ mod uses;
 pub use duties::duty_formula;
 pub use flows::flow_formula;
 pub use gains::gain_formula;
+pub use numbered::Numbered;

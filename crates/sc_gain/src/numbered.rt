@@ -14,7 +14,7 @@ use sc_schema::{ModelNo, TScript};
 
 /// A script with the numbers of the schema of its start databases.
 #[derive(Clone, Copy)]
-pub(crate) struct Numbered<'a> {
+pub struct Numbered<'a> {
     /// The script.
     pub script: &'a TScript,
     /// The numbers.

@@ -5,7 +5,7 @@ use Rattle.sc_formula.specs.Trees.{Formula}
 use Rattle.sc_duty.proofs.Speaking.{over_and_closed}
 use Rattle.sc_checker.proofs.obligations.verdict_on.Goals as goal
 
-pub decide-requires-clause-over : goal.decide-requires-clause-over
-decide-requires-clause-over g c =
+pub verdict_in-requires-clause-over : goal.verdict_in-requires-clause-over
+verdict_in-requires-clause-over g c =
     subst (λ (f : Formula). IsOver c.args.signature.now [] f) (sym c.in_ok-id.ensures.formula.1)
     (over_and_closed (script_of c.args.t.now) c.requires.script c.args.signature.now c.requires.signature c.args.duty c.requires.listed).0
