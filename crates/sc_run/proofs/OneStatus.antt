@@ -1,5 +1,5 @@
 -- Two answers to the same words on the same files have one status, or one is a leak and the other no decision.
-use Rattle.std.proofs.Common.{◌≡◌, ◌<◌, ◌≤◌, ◌⊎◌, inl, inr, ℕ, List, refl, ap, ap₂, sym, ◌∙◌, subst, length, arith}
+use Rattle.std.proofs.Common.{◌≡◌, ◌<◌, ◌≤◌, ◌⊎◌, inl, inr, ℕ, List, [], ◌∷◌, refl, ap, ap₂, sym, ◌∙◌, subst, length, arith}
 use Rattle.std.specs.Prelude.{⊤, Option, Some, None, IsSomeAnd, Result, Ok, Err}
 use Rattle.sc_flow.specs.Files.{Files}
 use Rattle.sc_tree.specs.declared.models.Spec as written_spec
@@ -27,6 +27,7 @@ use Rattle.sc_run.specs.declared.limits.TheConstants.{MOST_FILE_BYTES}
 use Rattle.sc_run.specs.declared.answer.Answer.{Answer}
 use Rattle.sc_run.specs.declared.answer.Answer.TheVariants as answer
 use Rattle.sc_run.specs.declared.answer.Checked.{Checked}
+use Rattle.sc_run.specs.declared.answer.Generated.{Generated}
 use Rattle.sc_run.specs.declared.fault.Fault.{Fault}
 use Rattle.sc_run.specs.declared.refusal.Refusal.{Refusal}
 use Rattle.sc_run.specs.declared.refusal.Refusal.TheVariants as refusal
@@ -34,10 +35,12 @@ use Rattle.sc_run.specs.declared.status.Status.{Status}
 use Rattle.sc_run.specs.declared.status.Status.TheVariants as status
 use Rattle.sc_run.specs.declared.stop.Stop.{Stop}
 use Rattle.sc_run.specs.declared.stop.Stop.TheVariants as stop
-use Rattle.sc_run.specs.Answer.{Commands, AsksFiles, Asks, Checks, Runs, IsAnswer, refusal_status, outcome_status, status_of, AreAlike}
+use Rattle.sc_run.specs.Answer.{Asks, Checks, ChecksFiles, Generates, Runs, Checking, Generating, NoCommand, end_of, IsAnswer, refusal_status, outcome_status, status_of, AreAlike}
 use Rattle.sc_run.specs.Loads.{IsNotGiven, Fetches, Reads, Loads}
-use Rattle.sc_run.specs.Stages.{Stage, Then, Stops, Goes}
+use Rattle.sc_run.specs.Generated.{generated, tightened_names, loosened_names}
+use Rattle.sc_run.specs.Stages.{Stage, Then, Stops, Goes, Passes, Gives}
 use Rattle.sc_run.specs.Typed.{TypesSpec, TypesScript, HasFault, schema_before, user_of}
+use Rattle.sc_run.specs.Words.{Names, check_of, gen_of, IsNoCommand}
 
 -- No fault and no want of memory ended the stage.
 abbrev pub IsRefused : Stop → Type 0
@@ -72,18 +75,6 @@ then-one view first second one-first one-second x y f g (Goes a p d) (Goes b q e
     let whole = one-first (Ok a) (Ok b) tt tt p q in
     let same : a ≡ b = cc in
     one-second b x y f g (subst (λ z. second z x) same d) e
-
-commands-one : (words : List (List ℕ)) → IsOne (Commands words)
-commands-one words (Ok m) (Ok n) f g p q = let same : m ≡ n = cc in ap (λ z. Ok z) same
-commands-one words (Ok m) (Err (stop.Refused r)) f g p (s, q) = absurd cc
-commands-one words (Ok m) (Err stop.ReadFault) f g p q = absurd g
-commands-one words (Ok m) (Err stop.OutOfMemory) f g p q = absurd g
-commands-one words (Err (stop.Refused r)) (Ok n) f g (s, p) q = absurd cc
-commands-one words (Err (stop.Refused r)) (Err (stop.Refused t)) f g (s, p) (u, q) = cc
-commands-one words (Err (stop.Refused r)) (Err stop.ReadFault) f g p q = absurd g
-commands-one words (Err (stop.Refused r)) (Err stop.OutOfMemory) f g p q = absurd g
-commands-one words (Err stop.ReadFault) y f g p q = absurd f
-commands-one words (Err stop.OutOfMemory) y f g p q = absurd f
 
 -- A file is missing, too long, or a text within the limit, and no two of these.
 no_file : (P : List ℕ → Type 0) (file : Option (List ℕ)) → file ≡ None → IsSomeAnd file P → ⊥
@@ -196,30 +187,42 @@ types-script-one name s script (Err stop.OutOfMemory) y f g p q = absurd f
 then-same : {A B : Type 0} (first : Stage A) (second : A → Stage B) → IsOne first → ((x : A) → IsOne (second x)) → IsOne (Then first second)
 then-same {A} {B} first second one-first one-second = then-one (λ (z : Result B Stop). z) first second one-first one-second
 
--- Words ask for one script.
-pub asks-one : (files : Files) (words : List (List ℕ)) → IsOne (Asks (Some files) words)
-asks-one files words =
-    then-same (Commands words) (AsksFiles (Some files)) (commands-one words)
-    (λ names. then-same (Loads spec_form (Some files) names.spec) (λ spec. Then (TypesSpec names.spec spec) (λ s. Then (Loads script_form (Some files) names.script) (TypesScript names.script s)))
+-- Files ask for one script.
+pub asks-one : (files : Files) (names : Names) → IsOne (Asks (Some files) names)
+asks-one files names =
+    then-same (Loads spec_form (Some files) names.spec) (λ spec. Then (TypesSpec names.spec spec) (λ s. Then (Loads script_form (Some files) names.script) (TypesScript names.script s)))
     (loads-one spec_form spec_text files names.spec)
     (λ spec. then-same (TypesSpec names.spec spec) (λ s. Then (Loads script_form (Some files) names.script) (TypesScript names.script s)) (types-spec-one names.spec spec)
     (λ s. then-same (Loads script_form (Some files) names.script) (TypesScript names.script s) (loads-one script_form script_text files names.script)
-    (types-script-one names.script s))))
+    (types-script-one names.script s)))
 
 -- what an end shows: how the script stands, or the status of a refusal
 data Seen : Type 0 where
   stands : Standing → Seen
+  made : Seen
   refused : Status → Seen
   cut_off : Seen
 
-end_seen : Result Checked Stop → Seen
+abbrev stop_seen : Stop → Seen
+stop_seen (stop.Refused r) = refused (refusal_status r)
+stop_seen stop.ReadFault = cut_off
+stop_seen stop.OutOfMemory = cut_off
+
+abbrev end_seen : Result Checked Stop → Seen
 end_seen (Ok checked) = stands (standing (outcome_data checked.outcome))
-end_seen (Err (stop.Refused r)) = refused (refusal_status r)
-end_seen (Err stop.ReadFault) = cut_off
-end_seen (Err stop.OutOfMemory) = cut_off
+end_seen (Err s) = stop_seen s
+
+abbrev kind : {A : Type 0} → Result A Stop → Seen
+kind (Ok x) = made
+kind (Err s) = stop_seen s
+
+abbrev answer_seen : Result Answer Stop → Seen
+answer_seen (Ok (answer.Checked checked)) = stands (standing (outcome_data checked.outcome))
+answer_seen (Ok (answer.Generated g)) = made
+answer_seen (Ok (answer.Refused r)) = refused (refusal_status r)
+answer_seen (Err s) = stop_seen s
 
 checks-one : (t : Script) → IsOneBy end_seen (Checks t)
-unfolding end_seen
 checks-one t (Ok a) (Ok b) f g p q = ap stands (outcomes_agree t p.typed (outcome_data a.outcome) (outcome_data b.outcome) p.outcome q.outcome)
 checks-one t (Ok a) (Err (stop.Refused r)) f g p q = absurd q
 checks-one t (Ok a) (Err stop.ReadFault) f g p q = absurd g
@@ -228,8 +231,94 @@ checks-one t (Err (stop.Refused r)) y f g p q = absurd p
 checks-one t (Err stop.ReadFault) y f g p q = absurd f
 checks-one t (Err stop.OutOfMemory) y f g p q = absurd f
 
-runs-one : (files : Files) (words : List (List ℕ)) → IsOneBy end_seen (Runs (Some files) words)
-runs-one files words = then-one end_seen (Asks (Some files) words) Checks (asks-one files words) checks-one
+files-one : (files : Files) (names : Names) → IsOneBy end_seen (ChecksFiles (Some files) names)
+files-one files names = then-one end_seen (Asks (Some files) names) Checks (asks-one files names) checks-one
+
+-- ---- the two scripts that are generated
+
+not-made : (s : Stop) → IsRefused s → made ≡ stop_seen s → ⊥
+not-made (stop.Refused r) f e = cc
+not-made stop.ReadFault f e = f
+not-made stop.OutOfMemory f e = f
+
+not-standing : (s : Stop) (how : Standing) → IsRefused s → stands how ≡ stop_seen s → ⊥
+not-standing (stop.Refused r) how f e = cc
+not-standing stop.ReadFault how f e = f
+not-standing stop.OutOfMemory how f e = f
+
+-- Where the first stage ends in one way, and the second does after whatever the first passed on, both do.
+then-kind : {A B : Type 0} (first : Stage A) (second other : A → Stage B) → IsOneBy kind first
+    → ((a b : A) (x y : Result B Stop) → IsFound x → IsFound y → second a x → other b y → kind x ≡ kind y)
+    → (x y : Result B Stop) → IsFound x → IsFound y → Then first second x → Then first other y → kind x ≡ kind y
+then-kind first second other one-first one-second x y f g (Stops s p d) (Stops t q e) =
+    ap kind d ∙ one-first (Err s) (Err t) (subst IsFound d f) (subst IsFound e g) p q ∙ sym (ap kind e)
+then-kind first second other one-first one-second x y f g (Stops s p d) (Goes b q e) =
+    absurd (not-made s (subst IsFound d f) (sym (one-first (Err s) (Ok b) (subst IsFound d f) tt p q)))
+then-kind first second other one-first one-second x y f g (Goes a p d) (Stops t q e) =
+    absurd (not-made t (subst IsFound e g) (one-first (Ok a) (Err t) tt (subst IsFound e g) p q))
+then-kind first second other one-first one-second x y f g (Goes a p d) (Goes b q e) = one-second a b x y f g d e
+
+files-kind : (files : Files) (names : Names) → IsOneBy kind (ChecksFiles (Some files) names)
+files-kind files names (Ok a) (Ok b) f g p q = refl
+files-kind files names (Ok a) (Err t) f g p q = absurd (not-standing t (standing (outcome_data a.outcome)) g (files-one files names (Ok a) (Err t) f g p q))
+files-kind files names (Err s) (Ok b) f g p q = absurd (not-standing s (standing (outcome_data b.outcome)) f (sym (files-one files names (Err s) (Ok b) f g p q)))
+files-kind files names (Err s) (Err t) f g p q = files-one files names (Err s) (Err t) f g p q
+
+passes-kind : {A : Type 0} (v w : A) (x y : Result A Stop) → IsFound x → IsFound y → Passes v x → Passes w y → kind x ≡ kind y
+passes-kind v w (Ok a) (Ok b) f g p q = refl
+passes-kind v w (Err (stop.Refused r)) y f g p q = absurd p
+passes-kind v w (Err stop.ReadFault) y f g p q = absurd p
+passes-kind v w (Err stop.OutOfMemory) y f g p q = absurd f
+passes-kind v w (Ok a) (Err (stop.Refused r)) f g p q = absurd q
+passes-kind v w (Ok a) (Err stop.ReadFault) f g p q = absurd q
+passes-kind v w (Ok a) (Err stop.OutOfMemory) f g p q = absurd g
+
+generates-one : (n : ℕ) → IsOneBy kind (Generates n)
+generates-one n =
+    then-kind (ChecksFiles (Some (generated n)) tightened_names) (λ c. behind c) (λ c. behind c) (files-kind (generated n) tightened_names)
+    (λ c d x y f g p q.
+    then-kind (ChecksFiles (Some (generated n)) loosened_names) (λ l. Passes (record { commands = n; tightened = c; loosened = l }))
+    (λ l. Passes (record { commands = n; tightened = d; loosened = l })) (files-kind (generated n) loosened_names)
+    (λ l m. passes-kind (record { commands = n; tightened = c; loosened = l }) (record { commands = n; tightened = d; loosened = m })) x y f g p q)
+  where
+    behind : Checked → Stage Generated
+    behind c = Then (ChecksFiles (Some (generated n)) loosened_names) (λ l. Passes (record { commands = n; tightened = c; loosened = l }))
+
+-- ---- commands
+
+-- No words are two commands.
+pub not-both : (words : List (List ℕ)) (names : Names) (n : ℕ) → check_of words ≡ Some names → gen_of words ≡ Some n → ⊥
+not-both [] names n p q = cc
+not-both (a ∷ []) names n p q = cc
+not-both (a ∷ b ∷ []) names n p q = cc
+not-both (a ∷ b ∷ c ∷ rest) names n p q = cc
+
+gives-one : {A : Type 0} (into : A → Answer) (view : Result A Stop → Seen) → ((a : A) → answer_seen (Ok (into a)) ≡ view (Ok a)) → ((s : Stop) → stop_seen s ≡ view (Err s))
+    → (stage : Stage A) → IsOneBy view stage → IsOneBy answer_seen (Gives into stage)
+gives-one into view found stopped stage one (Ok x) (Ok y) f g (a, is, p) (b, same, q) =
+    ap (λ (z : Answer). answer_seen (Ok z)) is ∙ found a ∙ one (Ok a) (Ok b) tt tt p q ∙ sym (found b) ∙ sym (ap (λ (z : Answer). answer_seen (Ok z)) same)
+gives-one into view found stopped stage one (Ok x) (Err t) f g (a, is, p) q =
+    ap (λ (z : Answer). answer_seen (Ok z)) is ∙ found a ∙ one (Ok a) (Err t) tt g p q ∙ sym (stopped t)
+gives-one into view found stopped stage one (Err s) (Ok y) f g p (b, same, q) =
+    stopped s ∙ one (Err s) (Ok b) f tt p q ∙ sym (found b) ∙ sym (ap (λ (z : Answer). answer_seen (Ok z)) same)
+gives-one into view found stopped stage one (Err s) (Err t) f g p q = stopped s ∙ one (Err s) (Err t) f g p q ∙ sym (stopped t)
+
+runs-one : (files : Files) (words : List (List ℕ)) → IsOneBy answer_seen (Runs (Some files) words)
+runs-one files words x y f g (Checking names is p) (Checking others are q) =
+    let same : names ≡ others = cc in
+    gives-one answer.Checked end_seen (λ a. refl) (λ s. refl) (ChecksFiles (Some files) others) (files-one files others) x y f g
+    (subst (λ (z : Names). Gives answer.Checked (ChecksFiles (Some files) z) x) same p) q
+runs-one files words x y f g (Checking names is p) (Generating n are q) = absurd (not-both words names n is are)
+runs-one files words x y f g (Checking names is p) (NoCommand neither e) = absurd (let none = neither.0 in cc)
+runs-one files words x y f g (Generating n is p) (Checking names are q) = absurd (not-both words names n are is)
+runs-one files words x y f g (Generating n is p) (Generating m are q) =
+    let same : n ≡ m = cc in
+    gives-one answer.Generated kind (λ a. refl) (λ s. refl) (Generates m) (generates-one m) x y f g
+    (subst (λ (z : ℕ). Gives answer.Generated (Generates z) x) same p) q
+runs-one files words x y f g (Generating n is p) (NoCommand neither e) = absurd (let none = neither.1 in cc)
+runs-one files words x y f g (NoCommand neither d) (Checking names are q) = absurd (let none = neither.0 in cc)
+runs-one files words x y f g (NoCommand neither d) (Generating n are q) = absurd (let none = neither.1 in cc)
+runs-one files words x y f g (NoCommand neither d) (NoCommand none e) = ap answer_seen (d ∙ sym e)
 
 alike : (a b : Outcome) → standing a ≡ standing b → AreAlike (outcome_status a) (outcome_status b)
 alike (accepted m) (accepted n) e = inl refl
@@ -249,17 +338,21 @@ alike (too_large d terms nodes) (leak v) e = absurd cc
 alike (too_large d terms nodes) (undecided c cycle) e = absurd cc
 alike (too_large d terms nodes) (too_large c some many) e = inl refl
 
+is-found : (a : Answer) → IsFound (end_of a)
+is-found (answer.Checked c) = tt
+is-found (answer.Generated g) = tt
+is-found (answer.Refused r) = tt
+
+seen-alike : (a b : Answer) → answer_seen (end_of a) ≡ answer_seen (end_of b) → AreAlike (status_of a) (status_of b)
+seen-alike (answer.Checked a) (answer.Checked b) e = alike (outcome_data a.outcome) (outcome_data b.outcome) cc
+seen-alike (answer.Checked a) (answer.Generated h) e = absurd cc
+seen-alike (answer.Checked a) (answer.Refused t) e = absurd cc
+seen-alike (answer.Generated g) (answer.Checked b) e = absurd cc
+seen-alike (answer.Generated g) (answer.Generated h) e = inl refl
+seen-alike (answer.Generated g) (answer.Refused t) e = absurd cc
+seen-alike (answer.Refused r) (answer.Checked b) e = absurd cc
+seen-alike (answer.Refused r) (answer.Generated h) e = absurd cc
+seen-alike (answer.Refused r) (answer.Refused t) e = inl cc
+
 pub one-status : (files : Files) (words : List (List ℕ)) (a b : Answer) → IsAnswer (Some files) words a → IsAnswer (Some files) words b → AreAlike (status_of a) (status_of b)
-unfolding end_seen
-one-status files words (answer.Checked a) (answer.Checked b) p q =
-    let seen = runs-one files words (Ok a) (Ok b) tt tt p q in
-    alike (outcome_data a.outcome) (outcome_data b.outcome) cc
-one-status files words (answer.Checked a) (answer.Refused r) p q =
-    let seen = runs-one files words (Ok a) (Err (stop.Refused r)) tt tt p q in
-    absurd cc
-one-status files words (answer.Refused r) (answer.Checked b) p q =
-    let seen = runs-one files words (Err (stop.Refused r)) (Ok b) tt tt p q in
-    absurd cc
-one-status files words (answer.Refused r) (answer.Refused t) p q =
-    let seen = runs-one files words (Err (stop.Refused r)) (Err (stop.Refused t)) tt tt p q in
-    inl cc
+one-status files words a b p q = seen-alike a b (runs-one files words (end_of a) (end_of b) (is-found a) (is-found b) p q)

@@ -1,5 +1,8 @@
 -- What the program may answer to its words, and what it then prints.
-use Rattle.std.specs.Prelude.{◌≡◌, ◌⊎◌, ℕ, List, Option, Some, None, Ok, Err}
+use Rattle.std.specs.Prelude.{◌≡◌, ◌⊎◌, ℕ, List, ◌∷◌, [], ◌==◌, suc, take, Option, Some, None, Result, Ok, Err, codes}
+use Rattle.std.specs.Fmt.{decimal}
+use Rattle.std.specs.List.{concat, position}
+use Rattle.std.specs.Option.{option_map_or}
 use Rattle.sc_flow.specs.Files.{Files}
 use Rattle.sc_tree.specs.Grammar.{spec_form, script_form}
 use Rattle.sc_schema.specs.Script.{Script, IsScript}
@@ -11,32 +14,27 @@ use Rattle.sc_checker.specs.Views.{outcome_data}
 use Rattle.sc_run.specs.declared.answer.Answer.{Answer}
 use Rattle.sc_run.specs.declared.answer.Answer.TheVariants as answer
 use Rattle.sc_run.specs.declared.answer.Checked.{Checked}
+use Rattle.sc_run.specs.declared.answer.Generated.{Generated}
 use Rattle.sc_run.specs.declared.refusal.Refusal.{Refusal}
 use Rattle.sc_run.specs.declared.refusal.Refusal.TheVariants as refusal
 use Rattle.sc_run.specs.declared.status.Status.{Status}
 use Rattle.sc_run.specs.declared.status.Status.TheVariants as status
+use Rattle.sc_run.specs.declared.stop.Stop.{Stop}
 use Rattle.sc_run.specs.declared.stop.Stop.TheVariants.{Refused}
+use Rattle.sc_run.specs.Generated.{generated, tightened_names, loosened_names}
 use Rattle.sc_run.specs.Loads.{Loads}
 use Rattle.sc_run.specs.Report.{usage_text, missing_text, too_long_text, syntax_text, spec_types_text, script_types_text, accepted_text}
-use Rattle.sc_run.specs.Stages.{Stage, Then, Judges}
+use Rattle.sc_run.specs.Stages.{Stage, Then, Judges, Passes, Gives}
 use Rattle.sc_run.specs.Typed.{TypesSpec, TypesScript}
-use Rattle.sc_run.specs.Words.{Names, command_of}
+use Rattle.sc_run.specs.Words.{Names, check_of, gen_of, IsNoCommand}
 
 -- ---- the stages, in their order
 
--- The words are a command.
-abbrev pub Commands : List (List ℕ) → Stage Names
-Commands words = Judges (λ r. (r ≡ refusal.Usage) × (command_of words ≡ None)) (λ names. command_of words ≡ Some names)
-
--- The script of two files: the one is loaded and typed, and then the other over its schema.
-abbrev pub AsksFiles : Option Files → Names → Stage Script
-AsksFiles told names =
+-- The files ask for this script: the one is loaded and typed, and then the other over its schema.
+abbrev pub Asks : Option Files → Names → Stage Script
+Asks told names =
     Then (Loads spec_form told names.spec) (λ spec. Then (TypesSpec names.spec spec)
     (λ s. Then (Loads script_form told names.script) (TypesScript names.script s)))
-
--- The script that the words ask for is this one: that of the files that they name.
-abbrev pub Asks : Option Files → List (List ℕ) → Stage Script
-Asks told words = Then (Commands words) (AsksFiles told)
 
 -- The script is well typed, and comes to this outcome.
 pub record IsChecked (t : Script) (checked : Checked) : Type 0 where
@@ -48,15 +46,34 @@ pub record IsChecked (t : Script) (checked : Checked) : Type 0 where
 abbrev pub Checks : Script → Stage Checked
 Checks t = Judges (λ r. ⊥) (IsChecked t)
 
-abbrev pub Runs : Option Files → List (List ℕ) → Stage Checked
-Runs told words = Then (Asks told words) Checks
+-- The script of the files is checked.
+abbrev pub ChecksFiles : Option Files → Names → Stage Checked
+ChecksFiles told names = Then (Asks told names) Checks
+
+-- The two scripts that `gen N` makes are checked, one after the other.
+abbrev pub Generates : ℕ → Stage Generated
+Generates n =
+    Then (ChecksFiles (Some (generated n)) tightened_names)
+    (λ tightened. Then (ChecksFiles (Some (generated n)) loosened_names)
+    (λ loosened. Passes (record { commands = n; tightened = tightened; loosened = loosened })))
+
+-- What the words come to: a script is checked, or the two that are generated are; or they are refused.
+pub data Runs (told : Option Files) (words : List (List ℕ)) (end : Result Answer Stop) : Type 0 where
+  Checking : (names : Names) → check_of words ≡ Some names → Gives answer.Checked (ChecksFiles told names) end → Runs told words end
+  Generating : (n : ℕ) → gen_of words ≡ Some n → Gives answer.Generated (Generates n) end → Runs told words end
+  NoCommand : IsNoCommand words → end ≡ Err (Refused refusal.Usage) → Runs told words end
 
 -- ---- the answers
 
+-- how the stages end with an answer
+abbrev pub end_of : Answer → Result Answer Stop
+end_of (answer.Checked checked) = Ok (answer.Checked checked)
+end_of (answer.Generated made) = Ok (answer.Generated made)
+end_of (answer.Refused r) = Err (Refused r)
+
 -- The words are answered so.
 abbrev pub IsAnswer : Option Files → List (List ℕ) → Answer → Type 0
-IsAnswer told words (answer.Checked checked) = Runs told words (Ok checked)
-IsAnswer told words (answer.Refused r) = Runs told words (Err (Refused r))
+IsAnswer told words a = Runs told words (end_of a)
 
 abbrev pub refusal_status : Refusal → Status
 refusal_status refusal.Usage = status.Usage
@@ -74,6 +91,7 @@ outcome_status (too_large duty terms nodes) = status.TooLarge
 
 abbrev pub status_of : Answer → Status
 status_of (answer.Checked checked) = outcome_status (outcome_data checked.outcome)
+status_of (answer.Generated made) = status.Done
 status_of (answer.Refused r) = refusal_status r
 
 abbrev pub refusal_text : Refusal → List ℕ
@@ -90,8 +108,30 @@ outcome_text t (leak w) = witness_text t w
 outcome_text t (undecided duty cycle) = undecided_text t duty cycle
 outcome_text t (too_large duty terms nodes) = too_large_text t duty terms nodes
 
+abbrev pub checked_text : Checked → List ℕ
+checked_text checked = outcome_text (script_of checked.script) (outcome_data checked.outcome)
+
+-- the text up to the end of its first line
+abbrev pub first_line : List ℕ → List ℕ
+first_line text = option_map_or (λ at. take (suc at) text) (position (λ b. b == 10) text) text
+
+-- how many obligations are accepted, or the first line of the report
+abbrev pub found_text : List ℕ → Outcome → List ℕ
+found_text text (accepted n) = concat (codes "obligations " ∷ decimal n ∷ codes " accepted\n" ∷ [])
+found_text text (leak w) = first_line text
+found_text text (undecided duty cycle) = first_line text
+found_text text (too_large duty terms nodes) = first_line text
+
+-- a line on each of the two scripts
+abbrev pub generated_text : Generated → List ℕ
+generated_text made =
+    concat (codes "gen " ∷ decimal made.commands ∷ codes " commands " ∷ decimal made.commands ∷ codes " "
+    ∷ found_text (checked_text made.tightened) (outcome_data made.tightened.outcome)
+    ∷ codes "loosened " ∷ first_line (checked_text made.loosened) ∷ [])
+
 abbrev pub text_of : Answer → List ℕ
-text_of (answer.Checked checked) = outcome_text (script_of checked.script) (outcome_data checked.outcome)
+text_of (answer.Checked checked) = checked_text checked
+text_of (answer.Generated made) = generated_text made
 text_of (answer.Refused r) = refusal_text r
 
 -- ---- the statuses of answers to the same words on the same files

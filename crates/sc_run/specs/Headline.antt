@@ -1,9 +1,13 @@
--- What the end of a run says of the script that its words ask for.
+-- What the end of a run says of the script in the files that its words name.
 use Rattle.std.specs.Prelude.{◌≡◌, ◌⊎◌, ℕ, List, Option, Some, IfSome, Ok, MatchOption}
 use Rattle.sc_flow.specs.Files.{Files}
 use Rattle.sc_flow.specs.Told.{Appends}
 use Rattle.sc_schema.specs.Script.{Script}
-use Rattle.sc_eval.specs.Gain.{GainAt, FlowAt}
+use Rattle.sc_schema.specs.declared.rights.Target.TheVariants as on
+use Rattle.sc_schema.specs.Schema.{FieldInfo}
+use Rattle.sc_schema.specs.Trees.{Init}
+use Rattle.sc_eval.specs.declared.cells.Cell.{Cell}
+use Rattle.sc_eval.specs.Gain.{GainAt, AddsAt, FlowAt}
 use Rattle.sc_eval.specs.Secure.{IsSecure, IsStepSecure}
 use Rattle.sc_verdict.specs.Sound.{IsDecidable}
 use Rattle.sc_witness.specs.Printed.{witness_text}
@@ -11,12 +15,21 @@ use Rattle.sc_witness.specs.Witness.{Witness}
 use Rattle.sc_run.specs.declared.status.Status.{Status}
 use Rattle.sc_run.specs.declared.status.Status.TheVariants.{Done, Leak, ReadFault, WriteFault, OutOfMemory}
 use Rattle.sc_run.specs.Answer.{Asks}
+use Rattle.sc_run.specs.Words.{Names}
 
--- The witness is real: on its start database its principal gains the right on its record by its command, or reads the cell there through
--- the field that the command adds.
+-- On its start database the principal of the witness reads the cell through the field that the command adds, which is the target of the
+-- witness.
+pub record LeaksCell (t : Script) (w : Witness) (cell : Cell) : Type 0 where
+  pub flow : FlowAt t w.command w.base w.row w.who cell
+  pub model : ℕ
+  pub field : FieldInfo
+  pub init : Init
+  pub adds : AddsAt t w.command model field init
+  pub target : w.target ≡ on.Field model field.number
+
+-- The witness is real: on its start database its principal gains the right on its record by its command, or the cell leaks there.
 abbrev pub IsReal : Script → Witness → Type 0
-IsReal t w =
-    MatchOption w.cell (GainAt t w.command w.target w.right w.base w.row w.who) (FlowAt t w.command w.base w.row w.who)
+IsReal t w = MatchOption w.cell (GainAt t w.command w.target w.right w.base w.row w.who) (LeaksCell t w)
 
 -- What was put out is the text of a real witness.
 pub record ShowsLeak (t : Script) (before after : Option (List ℕ)) : Type 0 where
@@ -32,7 +45,7 @@ pub data IsDecided (t : Script) (status : Status) : Type 0 where
 
 -- Where the script is accepted, it is secure, at each of its commands and as a whole: on every start database, of any size. Where it leaks,
 -- a real witness is put out. Where each of its obligations can be decided, it is accepted or leaks.
-pub record Headline (told : Option Files) (words : List (List ℕ)) (before after : Option (List ℕ)) (status : Status) : Type 0 where
-  pub secure : status ≡ Done → (t : Script) × Asks told words (Ok t) × IsStepSecure t × IsSecure t
-  pub leak : status ≡ Leak → (t : Script) × Asks told words (Ok t) × ShowsLeak t before after
-  pub decided : IfSome told (λ files. (t : Script) → Asks (Some files) words (Ok t) → IsDecidable t → IsDecided t status)
+pub record Headline (told : Option Files) (names : Names) (before after : Option (List ℕ)) (status : Status) : Type 0 where
+  pub secure : status ≡ Done → (t : Script) × Asks told names (Ok t) × IsStepSecure t × IsSecure t
+  pub leak : status ≡ Leak → (t : Script) × Asks told names (Ok t) × ShowsLeak t before after
+  pub decided : IfSome told (λ files. (t : Script) → Asks (Some files) names (Ok t) → IsDecidable t → IsDecided t status)

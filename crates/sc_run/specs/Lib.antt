@@ -1,5 +1,6 @@
 pub mod Answer
 pub mod Ends
+pub mod Generated
 pub mod Headline
 pub mod Loads
 pub mod Public

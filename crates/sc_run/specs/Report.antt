@@ -11,7 +11,7 @@ use Rattle.sc_typing.specs.declared.type_err.TypeErr.TheVariants as types
 use Rattle.sc_run.specs.declared.fault.Fault.{Fault}
 
 abbrev pub usage_text : List ℕ
-usage_text = codes "usage: check SPEC SCRIPT\n"
+usage_text = codes "usage: check SPEC SCRIPT, gen N\n"
 
 abbrev pub missing_text : List ℕ → List ℕ
 missing_text name = concat (codes "missing " ∷ name ∷ codes "\n" ∷ [])

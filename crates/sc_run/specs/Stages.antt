@@ -20,6 +20,15 @@ Judges refuses passes (Err (Refused refusal)) = refuses refusal
 Judges refuses passes (Err ReadFault) = ⊥
 Judges refuses passes (Err OutOfMemory) = ⊤
 
+-- A stage that refuses nothing and passes this value on.
+abbrev pub Passes : {A : Type 0} → A → Stage A
+Passes x = Judges (λ r. ⊥) (λ y. y ≡ x)
+
+-- The stage, with its value in the place of a larger one.
+abbrev pub Gives : {A B : Type 0} → (A → B) → Stage A → Stage B
+Gives {A} into stage (Ok y) = (x : A) × (y ≡ into x) × stage (Ok x)
+Gives into stage (Err stop) = stage (Err stop)
+
 -- The stage comes to what a call answers, whose value stands for this one.
 abbrev pub ComesTo : {A B : Type 0} → Stage A → (B → A) → Result B Stop → Type 0
 ComesTo stage seen (Ok x) = stage (Ok (seen x))

@@ -1,6 +1,7 @@
 -- What the words of the command line ask for.
-use Rattle.std.specs.Prelude.{ℕ, Bool, false, not, ◌&&◌, ◌==◌, List, [], ◌∷◌, Option, Some, None, codes, if◌then◌else◌}
+use Rattle.std.specs.Prelude.{◌≡◌, ℕ, ◌+◌, ◌-◌, ◌*◌, leb, Bool, false, not, ◌&&◌, ◌==◌, List, [], ◌∷◌, Option, Some, None, codes, if◌then◌else◌}
 use Rattle.std.specs.Str.{bytes_eq}
+use Rattle.std.specs.Int.{is_in_range}
 
 -- a word that names a file: it is not empty and does not begin with `-`
 abbrev pub is_operand : List ℕ → Bool
@@ -16,7 +17,26 @@ abbrev pub names_of : List ℕ → List ℕ → Names
 names_of spec script = record { spec = spec; script = script }
 
 -- `check SPEC SCRIPT`
-abbrev pub command_of : List (List ℕ) → Option Names
-command_of (word ∷ spec ∷ script ∷ []) =
+abbrev pub check_of : List (List ℕ) → Option Names
+check_of (word ∷ spec ∷ script ∷ []) =
     if bytes_eq word (codes "check") && is_operand spec && is_operand script then Some (record { spec = spec; script = script }) else None
-command_of _ = None
+check_of _ = None
+
+-- the number that two digits write
+abbrev pub of_digits : ℕ → ℕ → ℕ
+of_digits tens ones = 10 * (tens - 48) + (ones - 48)
+
+-- a number from 1 to 60, in digits without a leading zero
+abbrev pub count_of : List ℕ → Option ℕ
+count_of (d ∷ []) = if is_in_range 49 57 d then Some (d - 48) else None
+count_of (d ∷ e ∷ []) = if is_in_range 49 57 d && is_in_range 48 57 e && leb (of_digits d e) 60 then Some (of_digits d e) else None
+count_of _ = None
+
+-- `gen N`
+abbrev pub gen_of : List (List ℕ) → Option ℕ
+gen_of (word ∷ count ∷ []) = if bytes_eq word (codes "gen") then count_of count else None
+gen_of _ = None
+
+-- The words are no command.
+abbrev pub IsNoCommand : List (List ℕ) → Type 0
+IsNoCommand words = (check_of words ≡ None) × (gen_of words ≡ None)

@@ -17,11 +17,24 @@ pub struct Checked {
     pub outcome: Outcome,
 }
 
+/// What the checks of the two generated scripts found.
+#[derive(Drop)]
+pub struct Generated {
+    /// How many commands each script has.
+    pub commands: u32,
+    /// Of the script that tightens the policies of each field.
+    pub tightened: Checked,
+    /// Of the script that does the same, but leaves out a filter in its last command.
+    pub loosened: Checked,
+}
+
 /// What the program answers to its words.
 #[derive(Drop)]
 pub enum Answer {
-    /// The check was done.
+    /// A script was checked.
     Checked(Checked),
+    /// Two scripts were made and checked.
+    Generated(Generated),
     /// The words are refused.
     Refused(Refusal),
 }
@@ -53,6 +66,7 @@ impl Answer {
                 Outcome::Undecided { .. } => Status::Undecided,
                 Outcome::TooLarge { .. } => Status::TooLarge,
             },
+            Answer::Generated(_) => Status::Done,
             Answer::Refused(refusal) => refusal.status(),
         }
     }

@@ -8,7 +8,8 @@ ghost use Rattle.sc_schema.specs.SchemaViews.{script_of};
 use sc_checker::Formulas;
 use sc_duty::Duty;
 use sc_formula::Arena;
-use sc_gain::duty_formula;
+use sc_gain::{Numbered, duty_formula};
+use sc_numbering::Numbering;
 use sc_schema::TScript;
 use std::alloc::{AllocError, Global};
 
@@ -21,8 +22,13 @@ impl Formulas for DutyFormulas {
         alloc: Global,
         arena: &mut Arena,
         t: &TScript,
+        numbering: &Numbering,
         duty: Duty,
     ) -> Result<u32, AllocError> {
-        duty_formula(alloc, arena, t, duty)
+        let of = Numbered {
+            script: t,
+            numbering,
+        };
+        duty_formula(alloc, arena, &of, duty)
     }
 }

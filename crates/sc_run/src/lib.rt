@@ -17,7 +17,7 @@
 //! | `limits` | how long a file may be |
 //! | `types`, `users` | the trees with their types |
 //! | `formulas` | the formulas of obligations, for the check |
-//! | `check` | the stages of `check` |
+//! | `check`, `generated` | the stages of the commands |
 //! | `report`, `pieces` | the texts that are printed |
 #![tactic(auto)]
 
@@ -25,6 +25,7 @@ mod answer;
 mod check;
 mod fault;
 mod formulas;
+mod generated;
 mod laws;
 mod limits;
 mod load;
@@ -38,7 +39,7 @@ mod types;
 mod users;
 mod words;
 
-pub use answer::{Answer, Checked};
+pub use answer::{Answer, Checked, Generated};
 pub use fault::Fault;
 pub use laws::{one_script, one_status, run_surely};
 pub use limits::MOST_FILE_BYTES;

@@ -1,10 +1,10 @@
 //! The program as one call.
 
-ghost use Rattle.std.specs.Prelude.{◌≡◌, ◌≢◌, None};
+ghost use Rattle.std.specs.Prelude.{◌≡◌, ◌≢◌, None, IfSome};
 ghost use Rattle.sc_flow.specs.Outside.{IsRead, IsWritten};
 ghost use Rattle.sc_run.specs.Ends.{Ends, IsOfUsage, IsPut, IsSilent};
 ghost use Rattle.sc_run.specs.Headline.{Headline};
-ghost use Rattle.sc_run.specs.Words.{command_of};
+ghost use Rattle.sc_run.specs.Words.{IsNoCommand, check_of};
 
 use crate::answer::Answer;
 use crate::check::answer_to;
@@ -35,22 +35,27 @@ fn put_answer<W: Sink>(alloc: Global, answer: &Answer, out: &mut W) -> Status
 /// finds: that no command gains anybody a right on any database of any size, or a witness of the
 /// first obligation that fails, or that this obligation could not be decided.
 ///
+/// `gen N` makes a specification of N fields, from 1 to 60, and two scripts that change the
+/// policies of each, checks both, and writes a line on each.
+///
 /// The words are those after the program's name. The files are taken from `shelf`, the report is
 /// put into `out`, and `Status` says what each status means.
 pub fn run<F: Shelf, W: Sink>(alloc: Global, words: &[Txt], shelf: &mut F, out: &mut W) -> Status
     ensures ends { Ends (F.told shelf.old) words.now (W.told out.old) (W.told out.new) result }
 
-    // What the status says of the script in the files.
-    ensures headline { Headline (F.told shelf.old) words.now (W.told out.old) (W.told out.new) result }
+    // What the status says of the script in the files that are to be checked.
+    ensures headline { IfSome (check_of words.now)
+        (λ names. Headline (F.told shelf.old) names (W.told out.old) (W.told out.new) result) }
 
-    // The shelf is read and the output is written; where the words are no command, nothing is read.
+    // The shelf is read and the output is written; where no files are to be checked, nothing is read.
     ensures shelf { IsRead F.told F.faults shelf.old shelf.new (result ≡ Status.ReadFault) }
     ensures out { IsWritten W.faults out.old out.new (IsSilent result) (result
         ≡ Status.WriteFault) }
-    ensures usage { command_of words.now ≡ None → IsOfUsage result × (shelf.new ≡ shelf.old) }
+    ensures not_called { check_of words.now ≡ None → shelf.new ≡ shelf.old }
+    ensures usage { IsNoCommand words.now → IsOfUsage result }
 {
     match answer_to(alloc, words, shelf) {
-        Ok(checked) => put_answer(alloc, &Answer::Checked(checked), out),
+        Ok(answer) => put_answer(alloc, &answer, out),
         Err(Stop::Refused(refusal)) => put_answer(alloc, &Answer::Refused(refusal), out),
         Err(Stop::ReadFault) => Status::ReadFault,
         Err(Stop::OutOfMemory) => Status::OutOfMemory,

@@ -1,13 +1,15 @@
 //! The texts that the program prints.
 
-ghost use Rattle.std.specs.Prelude.{◌≡◌, IfOk};
+ghost use Rattle.std.specs.Prelude.{◌≡◌, ◌==◌, IfOk};
+ghost use Rattle.std.specs.List.{position};
 ghost use Rattle.sc_checker.specs.Views.{outcome_data};
+ghost use Rattle.sc_run.specs.Answer as answer;
 ghost use Rattle.sc_run.specs.Answer.{outcome_text, refusal_text, text_of};
 ghost use Rattle.sc_run.specs.Report as spec;
 ghost use Rattle.sc_schema.specs.SchemaViews.{script_of};
 ghost use Rattle.sc_texts.specs.declared.syntax_err.SyntaxErr.TheVariants.{TooMany};
 
-use crate::answer::{Answer, Checked};
+use crate::answer::{Answer, Checked, Generated};
 use crate::fault::Fault;
 use crate::pieces::join_pieces;
 use crate::refusal::Refusal;
@@ -126,7 +128,7 @@ fn refusal_text(alloc: Global, refusal: &Refusal) -> Result<Vec<u8>, AllocError>
     ensures { IfOk result (λ text. text.items ≡ refusal_text refusal.now) }
 {
     match refusal {
-        Refusal::Usage => join_pieces(alloc, &[b"usage: check SPEC SCRIPT\n"]),
+        Refusal::Usage => join_pieces(alloc, &[b"usage: check SPEC SCRIPT, gen N\n"]),
         Refusal::Missing(name) => join_pieces(alloc, &[b"missing ", name.bytes(), b"\n"]),
         Refusal::TooLong(name) => join_pieces(alloc, &[b"too long ", name.bytes(), b"\n"]),
         Refusal::Text(name, err) => syntax_text(alloc, name.bytes(), *err),
@@ -159,6 +161,58 @@ fn outcome_text(alloc: Global, checked: &Checked) -> Result<Vec<u8>, AllocError>
     }
 }
 
+/// Where the first line of the text ends.
+fn line_end(text: &[u8]) -> Option<usize>
+    ensures { result ≡ position (λ b. b == 10) text.now }
+{
+    text.iter().position(|byte| *byte == b'\n')
+}
+
+/// The text up to the end of its first line.
+fn first_line(text: &[u8]) -> &[u8]
+    ensures { result.now ≡ answer.first_line text.now }
+{
+    match line_end(text) {
+        Some(end) => &text[..=end],
+        None => text,
+    }
+}
+
+/// How many obligations are accepted, or the first line of the report.
+fn found_text(alloc: Global, checked: &Checked) -> Result<Vec<u8>, AllocError>
+    ensures { IfOk result (λ text. text.items ≡ answer.found_text
+        (answer.checked_text checked.now) (outcome_data checked.now.outcome)) }
+{
+    if let Outcome::Accepted { duties } = &checked.outcome {
+        let number = duties.to_string(alloc)?;
+        return join_pieces(alloc, &[b"obligations ", number.as_bytes(), b" accepted\n"]);
+    }
+    let text = outcome_text(alloc, checked)?;
+    Vec::from_slice(alloc, first_line(text.as_slice()))
+}
+
+/// A line on each of the two generated scripts.
+fn generated_text(alloc: Global, made: &Generated) -> Result<Vec<u8>, AllocError>
+    ensures { IfOk result (λ text. text.items ≡ answer.generated_text made.now) }
+{
+    let commands = made.commands.to_string(alloc)?;
+    let tightened = found_text(alloc, &made.tightened)?;
+    let loosened = outcome_text(alloc, &made.loosened)?;
+    join_pieces(
+        alloc,
+        &[
+            b"gen ",
+            commands.as_bytes(),
+            b" commands ",
+            commands.as_bytes(),
+            b" ",
+            tightened.as_slice(),
+            b"loosened ",
+            first_line(loosened.as_slice()),
+        ],
+    )
+}
+
 /// The report of the answer.
 pub fn report_of(alloc: Global, answer: &Answer) -> Result<Vec<u8>, AllocError>
     ensures { IfOk result (λ text. text.items ≡ text_of answer.now) }
@@ -166,5 +220,6 @@ pub fn report_of(alloc: Global, answer: &Answer) -> Result<Vec<u8>, AllocError>
     match answer {
         Answer::Refused(refusal) => refusal_text(alloc, refusal),
         Answer::Checked(checked) => outcome_text(alloc, checked),
+        Answer::Generated(made) => generated_text(alloc, made),
     }
 }

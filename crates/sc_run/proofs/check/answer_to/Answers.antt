@@ -1,13 +1,28 @@
-use Rattle.std.proofs.Common.{rules, ◌≡◌}
-use Rattle.std.specs.Prelude.{Err}
-use Rattle.sc_schema.specs.SchemaViews.{script_of}
-use Rattle.sc_run.specs.Stages.{Stops, Goes}
+use Rattle.std.proofs.Common.{rules, ◌≡◌, ◌∙◌, sym, subst, refl}
+use Rattle.std.specs.Prelude.{Err, Result}
+use Rattle.sc_run.specs.declared.answer.Answer.{Answer}
+use Rattle.sc_run.specs.declared.stop.Stop.{Stop}
+use Rattle.sc_run.specs.Answer.{Runs, Checking, Generating, NoCommand}
+use Rattle.sc_run.specs.Words.{names_of}
 use Rattle.sc_run.proofs.check.answer_to.Goals as goal
 
-pub returns-in_err-script-clause-answered : goal.returns-in_err-script-clause-answered
-returns-in_err-script-clause-answered g c =
-    let same : c.from_residual.result ≡ Err c.in_err-script.field-0.0 = search rules in
-    Stops c.in_err-script.field-0.0 c.in_err-script.ensures.asked same
+pub returns-in_err-check_files-clause-answered : goal.returns-in_err-check_files-clause-answered
+returns-in_err-check_files-clause-answered g c =
+    let same : c.from_residual.result ≡ Err c.in_err-check_files.field-0.0 = search rules in
+    subst (λ (r : Result Answer Stop). Runs (g.F.Shelf.told c.args.shelf.now) c.args.words.now r) (sym same)
+    (Checking (names_of c.in-Some.names.spec.now c.in-Some.names.script.now) c.in-Some.ensures c.in_err-check_files.ensures.checked)
 
-pub returns-clause-answered : goal.returns-clause-answered
-returns-clause-answered g c = Goes (script_of c.in_ok-script.script) c.in_ok-script.ensures.asked c.checked.ensures.checked
+pub returns-in-Some-clause-answered : goal.returns-in-Some-clause-answered
+returns-in-Some-clause-answered g c =
+    Checking (names_of c.in-Some.names.spec.now c.in-Some.names.script.now) c.in-Some.ensures (c.in_ok-check_files.field-0, refl, c.in_ok-check_files.ensures.checked)
+
+pub returns-in_err-generated-in-Some-gen_of-clause-answered : goal.returns-in_err-generated-in-Some-gen_of-clause-answered
+returns-in_err-generated-in-Some-gen_of-clause-answered g c =
+    let same : c.from_residual-in_err-generated-in-Some-gen_of.result ≡ Err c.in_err-generated-in-Some-gen_of.field-0.0 = search rules in
+    subst (λ (r : Result Answer Stop). Runs (g.F.Shelf.told c.args.shelf.now) c.args.words.now r) (sym same)
+    (Generating c.in-Some-gen_of.commands (sym c.gen_of.ensures ∙ c.in-Some-gen_of.is) c.in_err-generated-in-Some-gen_of.ensures.generates)
+
+pub returns-in_ok-generated-in-Some-gen_of-clause-answered : goal.returns-in_ok-generated-in-Some-gen_of-clause-answered
+returns-in_ok-generated-in-Some-gen_of-clause-answered g c =
+    Generating c.in-Some-gen_of.commands (sym c.gen_of.ensures ∙ c.in-Some-gen_of.is)
+    (c.in_ok-generated-in-Some-gen_of.field-0, refl, c.in_ok-generated-in-Some-gen_of.ensures.generates)

@@ -4,16 +4,16 @@ use Rattle.sc_run.proofs.OneStatus.{asks-one}
 use Rattle.sc_run.proofs.laws.one_script.Goals as goal
 
 pub returns-clause-script : goal.returns-clause-script
-returns-clause-script c files words t u p q =
-    let same = asks-one files words (Ok t) (Ok u) tt tt p q in
+returns-clause-script c files names t u p q =
+    let same = asks-one files names (Ok t) (Ok u) tt tt p q in
     cc
 
 pub returns-clause-refusal : goal.returns-clause-refusal
-returns-clause-refusal c files words one other p q =
-    let same = asks-one files words (Err (Refused one)) (Err (Refused other)) tt tt p q in
+returns-clause-refusal c files names one other p q =
+    let same = asks-one files names (Err (Refused one)) (Err (Refused other)) tt tt p q in
     cc
 
 pub returns-clause-apart : goal.returns-clause-apart
-returns-clause-apart c files words t refusal p q =
-    let same = asks-one files words (Ok t) (Err (Refused refusal)) tt tt p q in
+returns-clause-apart c files names t refusal p q =
+    let same = asks-one files names (Ok t) (Err (Refused refusal)) tt tt p q in
     cc

@@ -1,0 +1,26 @@
+//! A run over objects that never fail.
+
+use sc_flow::{MemFile, SureShelf, SureSink};
+use sc_run::{Status, run_surely};
+use sc_trial::words_of;
+use std::alloc::AllocError;
+use std::test::Fail;
+
+#[test]
+fn accepted_over_sure_objects(rt: HostRuntime) -> Result<(), Fail> {
+    let alloc = rt.alloc();
+    let mut files = Vec::new(alloc);
+    for name in ["n.spec", "s.scm"] {
+        let name = Vec::from_slice(alloc, name.as_bytes())?;
+        files
+            .push(MemFile::new(name, Vec::new(alloc)))
+            .map_err(AllocError::from)?;
+    }
+    let words = words_of(alloc, &["check", "n.spec", "s.scm"])?;
+    let mut shelf = SureShelf::new(files);
+    let mut out = SureSink::new(alloc, 64)?;
+    let status = run_surely(alloc, words.as_slice(), &mut shelf, &mut out);
+    assert_eq!(rt; status, Status::Done);
+    assert!(rt; out.bytes() == Some(b"accepted obligations 0\n".as_slice()));
+    Ok(())
+}
