@@ -15,8 +15,6 @@ mod database;
 mod fields;
 mod records;
 mod source;
-#[cfg(test)]
-mod tests;
 mod values;
 
 pub use database::build;

@@ -21,8 +21,6 @@ mod laws;
 mod parts;
 mod resolve;
 mod script_err;
-#[cfg(test)]
-mod tests;
 mod thing;
 mod users;
 mod uses;

@@ -13,8 +13,6 @@
 mod databases;
 mod laws;
 mod tables;
-#[cfg(test)]
-mod tests;
 mod values;
 
 pub use databases::print_database;

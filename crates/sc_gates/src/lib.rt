@@ -10,8 +10,6 @@ mod clauses;
 mod gate;
 mod gates;
 mod laws;
-#[cfg(test)]
-mod tests;
 
 pub use clauses::clauses_of;
 pub use gate::{Gate, Literal};

@@ -25,8 +25,6 @@ mod lists;
 mod make;
 mod memo;
 mod shapes;
-#[cfg(test)]
-mod tests;
 mod values;
 mod work;
 

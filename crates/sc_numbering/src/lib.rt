@@ -21,8 +21,6 @@ mod places;
 mod signature;
 mod spots;
 mod structure;
-#[cfg(test)]
-mod tests;
 
 pub use laws::start_types_are_there;
 pub use numbering::Numbering;

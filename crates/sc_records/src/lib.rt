@@ -24,8 +24,6 @@ mod references;
 mod rows;
 mod shape;
 mod table;
-#[cfg(test)]
-mod tests;
 mod value;
 mod weights;
 

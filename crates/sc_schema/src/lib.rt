@@ -19,8 +19,6 @@ mod commands;
 mod copies;
 mod rights;
 mod schemas;
-#[cfg(test)]
-mod tests;
 mod trees;
 mod types;
 

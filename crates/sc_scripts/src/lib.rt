@@ -24,8 +24,6 @@ mod small;
 mod specs;
 mod start;
 mod steps;
-#[cfg(test)]
-mod tests;
 
 pub use commands::step_command;
 pub use scripts::type_script;

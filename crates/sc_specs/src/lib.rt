@@ -16,8 +16,6 @@ mod models;
 mod names;
 mod specs;
 mod stage;
-#[cfg(test)]
-mod tests;
 
 pub use grown::{copied, push_model, push_static};
 pub use laws::worked_specs;

@@ -23,8 +23,6 @@ mod names;
 mod nodes;
 mod policies;
 mod set_nodes;
-#[cfg(test)]
-mod tests;
 mod type_err;
 mod types;
 mod vars;

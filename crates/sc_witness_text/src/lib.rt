@@ -15,8 +15,6 @@ mod added;
 mod lines;
 mod names;
 mod reports;
-#[cfg(test)]
-mod tests;
 mod witness;
 
 pub use reports::{print_too_large, print_undecided};

@@ -1,28 +1,14 @@
-//! What no clause says: that the call succeeds where there is memory.
+//! The database of a structure.
 
-use crate::build;
-use sc_ast::Name;
+use crate::tests::{field, name};
+use sc_build::build;
 use sc_formula::{SVal, Structure};
 use sc_records::Value;
-use sc_schema::{FieldInfo, ModelInfo, Schema, TBase, TPolicy, TTy};
+use sc_schema::{ModelInfo, Schema, TBase, TPolicy, TTy};
 use sqlite_items::Items;
 use std::alloc::Global;
 use std::rc::Rc;
 use std::test::Fail;
-
-fn name(alloc: Global, bytes: &[u8]) -> Result<Name, Fail> {
-    Ok(Name::make(Vec::from_slice(alloc, bytes)?).ok_or("no name")?)
-}
-
-fn field(alloc: Global, number: u32, word: &[u8], ty: TTy) -> Result<FieldInfo, Fail> {
-    Ok(FieldInfo {
-        number,
-        name: name(alloc, word)?,
-        ty,
-        read: Rc::new(alloc, TPolicy::Nobody)?,
-        write: Rc::new(alloc, TPolicy::Nobody)?,
-    })
-}
 
 /// Users with a manager and friends.
 fn users(alloc: Global) -> Result<ModelInfo, Fail> {

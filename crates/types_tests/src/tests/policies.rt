@@ -1,24 +1,17 @@
+//! Types of policies and initialisers.
+
 ghost use Rattle.std.specs.Prelude.{◌<◌};
 
-use crate::{TypeErr, typed_init, typed_policy};
-use sc_ast::Name;
+use crate::tests::{name, named};
 use sc_schema::{FieldInfo, ModelInfo, Schema, StaticInfo, TBase, TPolicy, TTy};
-use sc_tree::{Expr, Init, Item, Named, Policy, SetExpr};
+use sc_tree::{Expr, Init, Item, Policy, SetExpr};
+use sc_typing::{TypeErr, typed_init, typed_policy};
 use sqlite_items::{Boxed, Items};
 use std::alloc::Global;
 use std::rc::Rc;
 use std::test::Fail;
 
 const INT: TTy = TTy::Plain(TBase::Int);
-
-fn name(alloc: Global, bytes: &[u8]) -> Result<Name, Fail> {
-    Ok(Name::make(Vec::from_slice(alloc, bytes)?).ok_or("a name")?)
-}
-
-fn named(alloc: Global, bytes: &[u8], at: u32) -> Result<Named, Fail> {
-    let name = name(alloc, bytes)?;
-    Ok(Named { name, at })
-}
 
 fn field(alloc: Global, number: u32, bytes: &[u8], ty: TTy) -> Result<FieldInfo, Fail> {
     Ok(FieldInfo {

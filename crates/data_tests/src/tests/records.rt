@@ -1,34 +1,15 @@
-//! What no clause says: that the calls succeed where there is memory.
+//! Records of users.
 
 ghost use Rattle.std.specs.Prelude.{◌≡◌, IfOk, length};
 
-use crate::{DataErr, Database, Value};
-use sc_ast::{Name, Txt};
+use crate::tests::{field, name, text};
 use sc_data::Principal;
-use sc_schema::{FieldInfo, ModelInfo, Schema, TBase, TPolicy, TTy};
+use sc_records::{DataErr, Database, Value};
+use sc_schema::{ModelInfo, Schema, TBase, TPolicy, TTy};
 use sqlite_items::{Boxed, Items};
 use std::alloc::Global;
 use std::rc::Rc;
 use std::test::Fail;
-
-fn name(alloc: Global, bytes: &[u8]) -> Result<Name, Fail> {
-    Ok(Name::make(Vec::from_slice(alloc, bytes)?).ok_or("no name")?)
-}
-
-fn text(alloc: Global, bytes: &[u8]) -> Result<Value, Fail> {
-    let text = Txt::make(Vec::from_slice(alloc, bytes)?).ok_or("no text")?;
-    Ok(Value::Str(text))
-}
-
-fn field(alloc: Global, number: u32, word: &[u8], ty: TTy) -> Result<FieldInfo, Fail> {
-    Ok(FieldInfo {
-        number,
-        name: name(alloc, word)?,
-        ty,
-        read: Rc::new(alloc, TPolicy::Nobody)?,
-        write: Rc::new(alloc, TPolicy::Nobody)?,
-    })
-}
 
 /// Users with an email, a manager and perhaps an age.
 fn users(alloc: Global) -> Result<ModelInfo, Fail>

@@ -1,23 +1,18 @@
-use crate::{FieldInfo, ModelInfo, TBase, TPolicy, TTy};
-use sc_ast::Name;
+//! Copies of schemas.
+
+use crate::tests::name;
+use sc_schema::{FieldInfo, ModelInfo, TBase, TPolicy, TTy};
 use sqlite_items::Items;
 use std::alloc::Global;
 use std::rc::Rc;
 use std::test::Fail;
 
-fn name(alloc: Global, bytes: &[u8]) -> Result<Option<Name>, Fail> {
-    Ok(Name::make(Vec::from_slice(alloc, bytes)?))
-}
-
 #[test]
 fn a_schema_is_copied(rt: HostRuntime) -> Result<(), Fail> {
     let alloc = rt.alloc();
-    let (Some(note), Some(body)) = (name(alloc, b"Note")?, name(alloc, b"body")?) else {
-        return Ok(());
-    };
     let field = FieldInfo {
         number: 3,
-        name: body,
+        name: name(alloc, b"body")?,
         ty: TTy::Plain(TBase::Text),
         read: Rc::new(alloc, TPolicy::Everyone)?,
         write: Rc::new(alloc, TPolicy::Nobody)?,
@@ -26,7 +21,7 @@ fn a_schema_is_copied(rt: HostRuntime) -> Result<(), Fail> {
     fields.push(field)?;
     let model = ModelInfo {
         number: 2,
-        name: note,
+        name: name(alloc, b"Note")?,
         principal: true,
         create: Rc::new(alloc, TPolicy::Everyone)?,
         delete: Rc::new(alloc, TPolicy::Nobody)?,

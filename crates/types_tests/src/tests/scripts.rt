@@ -1,22 +1,17 @@
+//! Sizes of policies, and types of scripts.
+
 ghost use Rattle.std.specs.Prelude.{◌≡◌, [], IfOk};
 ghost use Rattle.sc_schema.specs.SchemaViews.{schema_of};
 ghost use Rattle.sc_proper.specs.Steady.{IsSteady};
 
-use crate::{step_command, type_script, type_spec};
-use sc_ast::Name;
+use crate::tests::named;
 use sc_schema::Schema;
-use sc_tree::{CmpOp, Command, Expr, ModelDef, Named, Policy, Script, SetExpr, Spec};
+use sc_scripts::{step_command, type_script, type_spec};
+use sc_tree::{CmpOp, Command, Expr, ModelDef, Policy, Script, SetExpr, Spec};
 use sc_typing::TypeErr;
 use sqlite_items::{Boxed, Items};
 use std::alloc::Global;
 use std::test::Fail;
-
-fn named(alloc: Global, bytes: &[u8], at: u32) -> Result<Named, Fail> {
-    match Name::make(Vec::from_slice(alloc, bytes)?) {
-        Some(name) => Ok(Named { name, at }),
-        None => Err(Fail::new("no name")),
-    }
-}
 
 /// A model with no fields.
 fn model(alloc: Global, name: &[u8], create: Policy) -> Result<ModelDef, Fail> {

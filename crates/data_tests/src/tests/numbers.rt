@@ -1,29 +1,15 @@
-//! What no clause says: that the calls succeed where there is memory.
+//! The signature of a schema and the structure of a database.
 
 ghost use Rattle.std.specs.Prelude.{◌≡◌};
 
-use crate::{Numbering, signature_of, structure_of};
-use sc_ast::Name;
+use crate::tests::{field, name};
+use sc_numbering::{Numbering, signature_of, structure_of};
 use sc_records::Database;
 use sc_schema::{FieldInfo, ModelInfo, Schema, TBase, TPolicy, TTy};
 use sqlite_items::Items;
 use std::alloc::{AllocError, Global};
 use std::rc::Rc;
 use std::test::Fail;
-
-fn name(alloc: Global, bytes: &[u8]) -> Result<Name, Fail> {
-    Ok(Name::make(Vec::from_slice(alloc, bytes)?).ok_or("no name")?)
-}
-
-fn field(alloc: Global, number: u32, ty: TTy) -> Result<FieldInfo, Fail> {
-    Ok(FieldInfo {
-        number,
-        name: name(alloc, b"field")?,
-        ty,
-        read: Rc::new(alloc, TPolicy::Nobody)?,
-        write: Rc::new(alloc, TPolicy::Nobody)?,
-    })
-}
 
 fn model(alloc: Global, number: u32, fields: Items<FieldInfo>) -> Result<ModelInfo, Fail> {
     Ok(ModelInfo {
@@ -53,15 +39,15 @@ fn schema(alloc: Global, models: Items<ModelInfo>) -> Schema
 /// A text and a set of notes.
 fn fields_of_users(alloc: Global) -> Result<Items<FieldInfo>, Fail> {
     let mut fields = Items::new(alloc);
-    fields.push(field(alloc, 5, TTy::Plain(TBase::Text))?)?;
-    fields.push(field(alloc, 6, TTy::Set(4))?)?;
+    fields.push(field(alloc, 5, b"field", TTy::Plain(TBase::Text))?)?;
+    fields.push(field(alloc, 6, b"field", TTy::Set(4))?)?;
     Ok(fields)
 }
 
 /// A user.
 fn fields_of_notes(alloc: Global) -> Result<Items<FieldInfo>, Fail> {
     let mut fields = Items::new(alloc);
-    fields.push(field(alloc, 7, TTy::Plain(TBase::Id(3)))?)?;
+    fields.push(field(alloc, 7, b"field", TTy::Plain(TBase::Id(3)))?)?;
     Ok(fields)
 }
 

@@ -1,18 +1,13 @@
-use crate::resolved_spec;
-use sc_ast::Name;
+//! Schemas of specifications.
+
+use crate::tests::named;
 use sc_schema::Schema;
-use sc_tree::{Base, FieldDef, ModelDef, Named, Policy, Spec, Ty};
+use sc_specs::resolved_spec;
+use sc_tree::{Base, FieldDef, ModelDef, Policy, Spec, Ty};
 use sc_typing::TypeErr;
 use sqlite_items::Items;
 use std::alloc::Global;
 use std::test::Fail;
-
-fn named(alloc: Global, bytes: &[u8], at: u32) -> Result<Named, Fail> {
-    match Name::make(Vec::from_slice(alloc, bytes)?) {
-        Some(name) => Ok(Named { name, at }),
-        None => Err(Fail::new("no name")),
-    }
-}
 
 /// A model with one field, whose type is the ids of this model.
 fn model(alloc: Global, name: &[u8], at: u32, ids: &[u8]) -> Result<ModelDef, Fail> {

@@ -1,19 +1,15 @@
-//! What no clause says: that the calls succeed where there is memory, and worked texts.
+//! Witnesses and other reports.
 
-use crate::{Witness, print_too_large, print_undecided, print_witness};
-use sc_ast::Name;
+use crate::tests::name;
 use sc_data::Principal;
 use sc_duty::Duty;
 use sc_records::Database;
 use sc_schema::{Kind, ModelInfo, Right, Schema, StaticInfo, TCommand, TPolicy, TScript, Target};
+use sc_witness_text::{Witness, print_too_large, print_undecided, print_witness};
 use sqlite_items::Items;
 use std::alloc::Global;
 use std::rc::Rc;
 use std::test::Fail;
-
-fn name(alloc: Global, bytes: &[u8]) -> Result<Name, Fail> {
-    Ok(Name::make(Vec::from_slice(alloc, bytes)?).ok_or("no name")?)
-}
 
 /// A model without fields.
 fn grant(alloc: Global) -> Result<ModelInfo, Fail> {

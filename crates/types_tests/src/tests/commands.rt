@@ -1,19 +1,14 @@
-use crate::{resolved, schema_after};
-use sc_ast::Name;
+//! Types of commands.
+
+use crate::tests::named;
+use sc_commands::{resolved, schema_after};
 use sc_schema::Schema;
 use sc_specs::resolved_spec;
-use sc_tree::{Command, Named, Spec};
+use sc_tree::{Command, Spec};
 use sc_typing::TypeErr;
 use sqlite_items::Items;
 use std::alloc::Global;
 use std::test::Fail;
-
-fn named(alloc: Global, bytes: &[u8], at: u32) -> Result<Named, Fail> {
-    match Name::make(Vec::from_slice(alloc, bytes)?) {
-        Some(name) => Ok(Named { name, at }),
-        None => Err(Fail::new("no name")),
-    }
-}
 
 /// A schema of one static.
 fn schema(alloc: Global) -> Result<Schema, Fail> {
