@@ -2,8 +2,6 @@ pub mod Adding
 pub mod Alike
 pub mod AllLaws
 pub mod CongruenceLaws
-pub mod DemandLaws
-pub mod MetLaws
 pub mod NumberLaws
 pub mod TermLaws
 pub mod TieLaws

@@ -5,31 +5,23 @@
 //! - `base`: all clauses of a table but those of congruence.
 //! - `congruence`: the clauses of congruence on two terms.
 //! - `congruences`: all clauses of congruence.
-//! - `demand`: the clauses that what a search found breaks.
 //! - `input_facts`: the facts that inputs stand for.
 //! - `numbering`: facts as variables.
 //! - `ties`: the clauses that tie inputs to their facts.
 //! - `ground`: all clauses.
-//! - `laws`: what holds of clauses on facts.
 #![tactic(auto)]
 
 mod base;
 mod congruence;
 mod congruences;
-mod demand;
 mod facts;
 mod ground;
 mod input_facts;
-mod laws;
 mod numbering;
 mod terms;
-#[cfg(test)]
-mod tests;
 mod ties;
 
 pub use base::base_clauses;
 pub use congruences::congruence_clauses;
-pub use demand::{Truth, broken};
 pub use facts::{FactLiteral, FactNode};
 pub use ground::{GroundClauses, ground_clauses};
-pub use laws::unbroken_clauses_are_met;

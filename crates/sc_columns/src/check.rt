@@ -7,6 +7,7 @@ ghost use Rattle.sc_columns.specs.Columns.{IsFactOf, IsSo, at_or, fact_by, is_sa
 
 use crate::columns::Columns;
 use crate::noun::{is_term, noun_by, value_by};
+use crate::pairs::Pairs;
 use sc_clauses::FactNode;
 use sc_formula::Arena;
 use sc_term_arena::TermArena;
@@ -19,7 +20,7 @@ use std::alloc::AllocError;
 pub struct Source<'a> {
     pub arena: &'a Arena,
     pub terms: &'a TermArena,
-    pub pairs: &'a [PairNode],
+    pub pairs: &'a Pairs,
     pub columns: &'a Columns,
 }
 
@@ -33,20 +34,11 @@ pub(crate) fn flag_at(flags: &Items<bool>, place: usize) -> bool
     }
 }
 
-/// The first place of a pair.
-fn place_of(pairs: &[PairNode], pair: PairNode) -> Option<usize>
-    ensures { result ≡ position (is_same_pair pair) pairs.now }
-{
-    pairs.iter().position(|p| {
-        p.relation == pair.relation && (pair.holder == p.holder && pair.member == p.member)
-    })
-}
-
 /// Whether the set relation of a pair holds.
-pub(crate) fn is_related(related: &Items<bool>, pairs: &[PairNode], pair: PairNode) -> bool
+pub(crate) fn is_related(related: &Items<bool>, pairs: &Pairs, pair: PairNode) -> bool
     ensures { result ≡ at_or related.now (position (is_same_pair pair) pairs.now) false }
 {
-    match place_of(pairs, pair) {
+    match pairs.place_of(pair) {
         Some(place) => flag_at(related, place),
         None => false,
     }

@@ -6,6 +6,7 @@ ghost use Rattle.sc_columns.specs.Columns.{AreFound, entry_by, related_by};
 
 use crate::check::{flag_at, is_related};
 use crate::columns::Columns;
+use crate::pairs::Pairs;
 use sc_formula::SVal;
 use sc_models::Found;
 use sc_term_arena::TermArena;
@@ -62,16 +63,18 @@ fn values_by(
     Ok(values)
 }
 
-/// Whether the set relation of each pair holds.
+/// Whether the set relation of each pair of a list holds.
 fn related_by(
     alloc: Global,
-    pairs: &[PairNode],
+    pairs: &Pairs,
+    list: &[PairNode],
     columns: &Columns,
 ) -> Result<Items<bool>, AllocError>
+    requires { list.now ≡ pairs.now }
     ensures { IfOk result (λ related. related ≡ related_by pairs.now columns.now) }
 {
     let mut related = Items::new(alloc);
-    for pair in pairs {
+    for pair in list {
         related.push(is_related(&columns.related, pairs, *pair))?;
     }
     Ok(related)
@@ -81,12 +84,12 @@ fn related_by(
 pub fn found_by(
     alloc: Global,
     terms: &TermArena,
-    pairs: &[PairNode],
+    pairs: &Pairs,
     columns: &Columns,
 ) -> Result<Found, AllocError>
     ensures { IfOk result (AreFound terms.now pairs.now columns.now) }
 {
-    let related = related_by(alloc, pairs, columns)?;
+    let related = related_by(alloc, pairs, pairs.as_slice(), columns)?;
     let empty = Items::from_slice(alloc, columns.empty.as_slice())?;
     let values = values_by(alloc, terms, columns)?;
     Ok(Found {

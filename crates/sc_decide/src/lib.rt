@@ -10,8 +10,6 @@
 mod deciding;
 mod shallow_terms;
 mod stratified;
-#[cfg(test)]
-mod tests;
 mod trying;
 mod verdict;
 

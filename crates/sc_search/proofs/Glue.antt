@@ -1,6 +1,7 @@
 -- What the search finds, as a table.
-use Rattle.std.proofs.Common.{◌≡◌, ℕ, zero, suc, ◌+◌, Bool, false, refl, sym, ◌∙◌, List, [], ◌∷◌, ◌++◌, Some, length, map, ap, subst, Contains, slice_get}
+use Rattle.std.proofs.Common.{inl, inr, ◌≡◌, ℕ, zero, suc, ◌+◌, Bool, false, refl, sym, ◌∙◌, List, [], ◌∷◌, ◌++◌, Some, length, map, ap, subst, Contains, slice_get}
 use Rattle.std.specs.Prelude.{unwrap_or}
+use Rattle.std.proofs.lemmas.List.Elements.{Contains-append_cases, Contains-append_left, Contains-append_right}
 use Rattle.std.proofs.lemmas.Option.{slice_get-get_or}
 use Rattle.sc_ast.specs.Words.{IsText}
 use Rattle.sc_formula.specs.NormalForm.{IsNormal}
@@ -15,8 +16,12 @@ use Rattle.sc_terms.specs.GroundTerms.{GroundTerm}
 use Rattle.sc_terms.specs.Passing.{IsSatisfiableOver}
 use Rattle.sc_term_arena.specs.Nodes.{ArePlaced, AreOnce}
 use Rattle.sc_tables.specs.Clauses.{base_clauses, congruence_clauses}
-use Rattle.sc_tables.specs.Facts.{Assignment, Clause, Fact, is_fact, table_for}
+use Rattle.sc_tables.specs.Facts.{Assignment, Clause, Fact, is_fact, is_met, table_for}
 use Rattle.sc_tables.proofs.Assignments.{consistent_from}
+use Rattle.sc_tables.proofs.ClausesMet.{each_met, met_append, met_each}
+use Rattle.sc_terms.proofs.Kept.{list_all-from}
+use Rattle.sc_terms.proofs.Lists.{list_all-Contains}
+use Rattle.sc_demand.proofs.CongruentMet.{congruence_met}
 use Rattle.sc_grounding.specs.GroundClauses.{AreGroundClauses, HaveFacts}
 use Rattle.sc_grounding.proofs.Grounded.{grounded, met_tables, met_read}
 use Rattle.sc_vocabulary.specs.Spoken.{IsSpoken}
@@ -34,8 +39,9 @@ use Rattle.sc_columns.specs.Columns.{AreFound, AreTyped, IsTypedAt, IsSo, assign
 use Rattle.sc_columns.specs.declared.columns.Columns.{Columns}
 use Rattle.sc_term_arena.specs.declared.node.TermNode.{TermNode}
 use Rattle.sc_columns.proofs.Told.{so_same, typed_same, found_same}
+use Rattle.sc_demand.specs.Congruent.{AreCongruences}
 use Rattle.sc_search.specs.Problem.{AreSolved, IsNowhere}
-use Rattle.sc_search.specs.Tabled.{HasColumns, HasTable, IsGroundFor, IsTabled}
+use Rattle.sc_search.specs.Tabled.{AreListed, HaveBase, HasColumns, HasTable, IsFoundCongruent, IsGroundFor, IsTabled}
 use Rattle.sc_search.specs.declared.tabled.Tabled.{Tabled}
 use Rattle.sc_search.proofs.Encoded.{map-append}
 use Rattle.sc_search.specs.Texts.{AreTexts}
@@ -74,32 +80,34 @@ module _ (g : Signature) (nodes : List Node) (f : Formula) (ts : List GroundTerm
   pub nowhere : (texts : List (List ℕ)) → AreTexts texts → IsNowhere g nodes s.made.terms s.words texts first ground.facts.items all → IsSatisfiableOver g f (Contains ts) → ⊥
   nowhere texts are none sat =
       let v = vocabulary_at s.made.terms s.words in
-      let cs = base_clauses g v ++ congruence_clauses g v in
       let (spare, m, values, law, have, meet) =
-      grounded g f ts v cs texts nodes s.made facts all over normal is.vocabulary (texts_are texts are) is.instances gates gr.clauses (λ c here. here) sat in
+      grounded g f ts v gr.cs texts nodes s.made facts all over normal is.vocabulary (texts_are texts are) is.instances gates gr.clauses gr.listed.only sat in
       none spare m values law (λ k p e. ap (λ n. values (n + k)) begins ∙ have k (fact_at nodes s.made.terms p) (mapped (fact_at nodes s.made.terms) ground.facts.items k p e)) meet
 
-  -- and where there are values and columns, there is a table
+  -- and where there are values and columns, and what was found is congruent, there is a table
   pub found_table : (m : Mixture) (found : Found) → AreNodesPlaced nodes → ArePlaced s.made.terms → AreOnce s.made.terms → AreSolved all m
-      → HasColumns g nodes s.made.terms s.words ground.facts.items first m.values.items found → HasTable g f ts s found
-  found_table m found formed placed once solved has =
+      → HasColumns g nodes s.made.terms s.words ground.facts.items first m.values.items found → IsFoundCongruent s.made.terms s.words found → HasTable g f ts s found
+  found_table m found formed placed once solved has fits =
       let terms = s.made.terms in
       let pairs = s.words.pairs.items in
       let v = vocabulary_at terms s.words in
-      let cs = base_clauses g v ++ congruence_clauses g v in
       let a : Assignment = assignment_by terms pairs has.columns in
       let values : ℕ → Bool = λ x. unwrap_or (slice_get m.values.items x) false in
       let have : HaveFacts s.made facts a values =
       λ k q e.
       let (p, there, same) = unmapped (fact_at nodes terms) ground.facts.items k q e in
       ap (λ n. values (n + k)) (sym begins) ∙ (so_same terms placed once nodes formed pairs is.words.pairs has.columns p (values (first + k)) (has.so k p there) ∙ ap (is_fact a) same) in
-      let met = met_tables g f ts cs nodes s.made facts all over is.instances gates gr.clauses a values have solved.meet in
-      let read = met_read g f ts cs nodes s.made facts all over is.instances gates gr.clauses a values have solved.meet in
+      let met = met_tables g f ts gr.cs nodes s.made facts all over is.instances gates gr.clauses a values have solved.meet in
+      let read = met_read g f ts gr.cs nodes s.made facts all over is.instances gates gr.clauses a values have solved.meet in
       let typed = typed_same terms placed once nodes formed pairs is.words.pairs has.columns g s.words (typed_both g terms has.columns s.words.named.items s.words.others.items has.named_typed has.others_typed) in
+      let is_found = found_same terms placed once nodes formed pairs is.words.pairs has.columns g found has.is_found in
+      let base = list_all-from (is_met a) (base_clauses g v) (λ c here. list_all-Contains (is_met a) gr.cs c met (gr.listed.base c here)) in
+      let whole = each_met a (base_clauses g v ++ congruence_clauses g v)
+      (met_append a (base_clauses g v) (congruence_clauses g v) (met_each a (base_clauses g v) base) (congruence_met g f ts v a is.vocabulary typed (fits g (table_for a) is_found))) in
       record {
         table = table_for a;
-        is_found = found_same terms placed once nodes formed pairs is.words.pairs has.columns g found has.is_found;
-        consistent = consistent_from g f ts v a is.vocabulary typed met;
+        is_found = is_found;
+        consistent = consistent_from g f ts v a is.vocabulary typed whole;
         reads = read;
       }
 
@@ -112,17 +120,14 @@ module _ (g : Signature) (nodes : List Node) (f : Formula) (ts : List GroundTerm
       (subst (λ (cs : List (List Literal)). IsNowhere g nodes s.made.terms s.words texts first fs cs) k none))
 
   pub found_as : (m : Mixture) (found : Found) → AreNodesPlaced nodes → ArePlaced s.made.terms → AreOnce s.made.terms → (fs : List FactNode) (cs : List (List Literal)) → fs ≡ ground.facts.items → cs ≡ all
-      → AreSolved cs m → HasColumns g nodes s.made.terms s.words fs first m.values.items found → HasTable g f ts s found
-  found_as m found formed placed once fs cs e k solved has =
+      → AreSolved cs m → HasColumns g nodes s.made.terms s.words fs first m.values.items found → IsFoundCongruent s.made.terms s.words found → HasTable g f ts s found
+  found_as m found formed placed once fs cs e k solved has fits =
       found_table m found formed placed once (subst (λ (cs : List (List Literal)). AreSolved cs m) k solved)
-      (subst (λ (fs : List FactNode). HasColumns g nodes s.made.terms s.words fs first m.values.items found) e has)
+      (subst (λ (fs : List FactNode). HasColumns g nodes s.made.terms s.words fs first m.values.items found) e has) fits
 
 -- two lists together
 pub at_items : {V X : Type 0} (items : V → List X) (cs ds gs hs : List V) → cs ≡ ds → gs ≡ hs → map items cs ++ map items gs ≡ map items ds ++ map items hs
 at_items items cs ds gs hs e k = ap (λ xs. map items xs ++ map items gs) e ∙ ap (λ ys. map items ds ++ map items ys) k
-
-pub clauses_as : {V : Type 0} (nodes : List Node) (terms : List TermNode) (items : V → List FactLiteral) (vs us : List V) → vs ≡ us → clauses_at nodes terms (map items vs) ≡ clauses_at nodes terms (map items us)
-clauses_as nodes terms items vs us e = ap (λ xs. clauses_at nodes terms (map items xs)) e
 
 -- the columns of what was found, where the lists are these
 pub columns_as : (g : Signature) (nodes : List Node) (terms : List TermNode) (w : Words) (facts : List FactNode) (first : ℕ) (values : List Bool) (found : Found) (c : Columns)
@@ -161,18 +166,43 @@ tabled_by g nodes f ts closed s found t is has p q r =
       reads = has.reads;
     })
 
--- the clauses say that the formula holds and its table is consistent
+-- the clauses say that the formula holds, and what the clauses on facts say
 pub ground_for : (g : Signature) (nodes : List Node) (s : Spoken) (ground : GroundClauses) (cs : List Clause)
     → AreGroundClauses s.made (map (fact_at nodes s.made.terms) ground.facts.items) nodes cs (map (λ c. c.items) ground.clauses.items ++ map (λ c. c.items) ground.gates.items)
-    → cs ≡ base_clauses g (vocabulary_at s.made.terms s.words) ++ congruence_clauses g (vocabulary_at s.made.terms s.words) → IsGroundFor g nodes s ground
-ground_for g nodes s ground cs h same = record {
-  clauses =
-      subst (λ (cs : List Clause). AreGroundClauses s.made (map (fact_at nodes s.made.terms) ground.facts.items) nodes cs (map (λ c. c.items) ground.clauses.items ++ map (λ c. c.items) ground.gates.items))
-      same h;
-}
+    → HaveBase g (vocabulary_at s.made.terms s.words) cs → IsGroundFor g nodes s ground
+ground_for g nodes s ground cs h is = record { cs = cs; listed = is; clauses = h }
 
--- the clauses of two lists
-pub both_clauses : (nodes : List Node) (terms : List TermNode) (left right both : List (List FactLiteral)) (base congruence : List Clause) → both ≡ left ++ right → clauses_at nodes terms left ≡ base
-    → clauses_at nodes terms right ≡ congruence → clauses_at nodes terms both ≡ base ++ congruence
-both_clauses nodes terms left right both base congruence e h k =
-    ap (clauses_at nodes terms) e ∙ (map-append (clause_at nodes terms) left right ∙ (ap (λ cs. cs ++ clauses_at nodes terms right) h ∙ ap (λ cs. base ++ cs) k))
+-- all clauses are listed where each is
+pub all_listed : (g : Signature) (nodes : List Node) (terms : List TermNode) (w : Words) (clauses : List (List FactLiteral))
+    → clauses_at nodes terms clauses ≡ base_clauses g (vocabulary_at terms w) ++ congruence_clauses g (vocabulary_at terms w) → AreListed g nodes terms w clauses
+all_listed g nodes terms w clauses e =
+    let v = vocabulary_at terms w in
+    record {
+      base = λ c here. subst (λ cs. Contains cs c) (sym e) (Contains-append_left (base_clauses g v) (congruence_clauses g v) c here);
+      only = λ c here. subst (λ cs. Contains cs c) e here;
+    }
+
+-- and so are the base alone
+pub base_listed : (g : Signature) (nodes : List Node) (terms : List TermNode) (w : Words) (clauses : List (List FactLiteral))
+    → clauses_at nodes terms clauses ≡ base_clauses g (vocabulary_at terms w) → AreListed g nodes terms w clauses
+base_listed g nodes terms w clauses e =
+    let v = vocabulary_at terms w in
+    record {
+      base = λ c here. subst (λ cs. Contains cs c) (sym e) here;
+      only = λ c here. Contains-append_left (base_clauses g v) (congruence_clauses g v) c (subst (λ cs. Contains cs c) e here);
+    }
+
+-- and with more of congruence
+pub more_listed : (g : Signature) (nodes : List Node) (terms : List TermNode) (w : Words) (old more new : List (List FactLiteral)) → new ≡ old ++ more
+    → AreCongruences g nodes terms w more → AreListed g nodes terms w old → AreListed g nodes terms w new
+more_listed g nodes terms w old more new e fits is =
+    let v = vocabulary_at terms w in
+    let split : clauses_at nodes terms new ≡ clauses_at nodes terms old ++ clauses_at nodes terms more = ap (clauses_at nodes terms) e ∙ map-append (clause_at nodes terms) old more in
+    record {
+      base = λ c here. subst (λ cs. Contains cs c) (sym split) (Contains-append_left (clauses_at nodes terms old) (clauses_at nodes terms more) c (is.base c here));
+      only = λ c here.
+          elim (Contains-append_cases (clauses_at nodes terms old) (clauses_at nodes terms more) c (subst (λ cs. Contains cs c) split here)) [
+            | inl before ↦ is.only c before
+            | inr later ↦ Contains-append_right (base_clauses g v) (congruence_clauses g v) c (fits c later)
+          ];
+    }

@@ -1,5 +1,5 @@
 -- What the solver's answers say of the clauses.
-use Rattle.std.proofs.Common.{◌≡◌, ℕ, zero, suc, ◌+◌, ◌-◌, ◌<◌, Bool, true, false, not, inl, inr, refl, sym, ◌∙◌, List, [], ◌∷◌, ◌++◌, Option, Some, None, Result, Ok, Err, IfOk, IfSome, length, get_or, map, ap, subst, arith, cond, Contains, slice_get, IsTrue, All}
+use Rattle.std.proofs.Common.{Vec, Global, ◌≡◌, ℕ, zero, suc, ◌+◌, ◌-◌, ◌<◌, Bool, true, false, not, inl, inr, refl, sym, ◌∙◌, List, [], ◌∷◌, ◌++◌, Option, Some, None, Result, Ok, Err, IfOk, IfSome, length, get_or, map, ap, subst, arith, cond, Contains, slice_get, IsTrue, All}
 use Rattle.std.specs.Prelude.{unwrap_or}
 use Rattle.std.specs.List.{range_with_len}
 use Rattle.std.proofs.lemmas.Option.{slice_get-get_or}
@@ -22,6 +22,11 @@ use Rattle.sc_clauses.specs.declared.facts.FactNode.{FactNode}
 use Rattle.std.proofs.lemmas.List.Elements.{Contains-append_left, Contains-append_right}
 use Rattle.sc_search.specs.Encoding.{AreAtomsFor, AreLinked}
 use Rattle.sc_search.specs.Problem.{AreBelow, AreSolved, IsNowhere, IsPlainlyMixed, plit_of}
+use Rattle.sc_clauses.specs.declared.facts.FactLiteral.{FactLiteral}
+use Rattle.sc_models.specs.declared.found.Found.{Found}
+use Rattle.sc_search.specs.declared.round.Round.{Round}
+use Rattle.sc_search.specs.declared.round.Round.TheVariants as round
+use Rattle.sc_search.specs.Tabled.{IsRound}
 use Rattle.sc_search.specs.Texts.{StandOnce}
 use Rattle.sc_search.proofs.ModelColumns.{class_column, classes_fit}
 use Rattle.sc_search.proofs.Encoded.{assignment, cases-append, map-append, mixed}
@@ -111,3 +116,13 @@ each_below items bound cs h c there =
 
 pub items_as : {V X : Type 0} (items : V → List X) (vs us : List V) → vs ≡ us → map items vs ≡ map items us
 items_as items vs us e = ap (map items) e
+
+-- what holds of a round
+pub round_too : (r : Round) (P P' : Found → Type 0) (Q : List (List FactLiteral) → Type 0) → ((x : Found) → P x → P' x) → IsRound P Q r → IsRound P' Q r
+round_too (round.Table found) P P' Q h k = h found k
+round_too (round.Broken clauses) P P' Q h k = k
+
+pub broken_round : (o : Option Round) (P : Found → Type 0) (Q : List (List FactLiteral) → Type 0) (r : Round) (clauses : Vec (Vec FactLiteral Global) Global) → o ≡ Some r → r ≡ round.Broken clauses
+    → IfSome o (IsRound P Q) → Q (map (λ c. c.items) clauses.items)
+broken_round o P Q r clauses e is h =
+    let here : IsRound P Q r = subst (λ o. IfSome o (IsRound P Q)) e h in subst (λ r. IsRound P Q r) is here

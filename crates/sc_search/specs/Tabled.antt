@@ -6,21 +6,26 @@ use Rattle.sc_terms.specs.GroundTerms.{GroundTerm, no_terms}
 use Rattle.sc_terms.specs.Reading.{Reads}
 use Rattle.sc_tables.specs.Consistent.{IsConsistent}
 use Rattle.sc_tables.specs.Table.{Table, is_there, holds}
-use Rattle.sc_tables.specs.Vocabulary.{IsVocabulary}
+use Rattle.sc_tables.specs.Vocabulary.{IsVocabulary, Vocabulary}
 use Rattle.sc_models.specs.Found.{IsFound}
 use Rattle.sc_vocabulary.specs.Words.{IsWords, vocabulary_at}
 use Rattle.sc_formula.specs.declared.node.Node.{Node}
 use Rattle.sc_term_arena.specs.declared.node.TermNode.{TermNode}
 use Rattle.sc_tables.specs.Clauses.{base_clauses, congruence_clauses}
+use Rattle.sc_tables.specs.Facts.{Clause}
 use Rattle.sc_grounding.specs.GroundClauses.{AreGroundClauses}
 use Rattle.sc_vocabulary.specs.declared.spoken.Spoken.{Spoken}
 use Rattle.sc_vocabulary.specs.declared.words.Words.{Words}
-use Rattle.sc_clauses.specs.Facts.{fact_at}
+use Rattle.sc_clauses.specs.Facts.{clauses_at, fact_at}
+use Rattle.sc_clauses.specs.declared.facts.FactLiteral.{FactLiteral}
 use Rattle.sc_clauses.specs.declared.facts.FactNode.{FactNode}
 use Rattle.sc_clauses.specs.declared.ground.GroundClauses.{GroundClauses}
 use Rattle.sc_models.specs.declared.found.Found.{Found}
 use Rattle.sc_columns.specs.Columns.{AreFound, AreTyped, IsSo}
 use Rattle.sc_columns.specs.declared.columns.Columns.{Columns}
+use Rattle.sc_demand.specs.Congruent.{IsCongruent}
+use Rattle.sc_search.specs.declared.round.Round.{Round}
+use Rattle.sc_search.specs.declared.round.Round.TheVariants as round
 use Rattle.sc_search.specs.declared.tabled.Tabled.{Tabled}
 
 -- the numbers are those of a vocabulary of the formula over the terms, which names no more than these where these are said to be closed; and what
@@ -41,11 +46,30 @@ pub record HasTable (g : Signature) (f : Formula) (terms : List GroundTerm) (s :
   pub consistent : IsConsistent g (vocabulary_at s.made.terms s.words) table
   pub reads : Reads g (is_there table) (holds table) terms 0 [] no_terms f
 
--- the clauses are those that say that the formula holds and its table is consistent
+-- the clauses of a table are there, and some of those of congruence
+pub record HaveBase (g : Signature) (v : Vocabulary) (cs : List Clause) : Type 0 where
+  pub base : (c : Clause) → Contains (base_clauses g v) c → Contains cs c
+  pub only : (c : Clause) → Contains cs c → Contains (base_clauses g v ++ congruence_clauses g v) c
+
+-- and so of those that are written by numbers
+abbrev pub AreListed : Signature → List Node → List TermNode → Words → List (List FactLiteral) → Type 0
+AreListed g nodes terms w clauses = HaveBase g (vocabulary_at terms w) (clauses_at nodes terms clauses)
+
+-- the clauses say that the formula holds, that its table is one, and of congruence some
 pub record IsGroundFor (g : Signature) (nodes : List Node) (s : Spoken) (ground : GroundClauses) : Type 0 where
-  pub clauses : AreGroundClauses s.made (map (fact_at nodes s.made.terms) ground.facts.items) nodes
-      (base_clauses g (vocabulary_at s.made.terms s.words) ++ congruence_clauses g (vocabulary_at s.made.terms s.words))
+  pub cs : List Clause
+  pub listed : HaveBase g (vocabulary_at s.made.terms s.words) cs
+  pub clauses : AreGroundClauses s.made (map (fact_at nodes s.made.terms) ground.facts.items) nodes cs
       (map (λ c. c.items) ground.clauses.items ++ map (λ c. c.items) ground.gates.items)
+
+-- each table that has what was found is the same at terms that are the same
+abbrev pub IsFoundCongruent : List TermNode → Words → Found → Type 0
+IsFoundCongruent terms w found = (g : Signature) (table : Table) → IsFound g terms w.pairs.items found table → IsCongruent (vocabulary_at terms w) table
+
+-- the one holds of what was found, or the other of clauses
+abbrev pub IsRound : (Found → Type 0) → (List (List FactLiteral) → Type 0) → Round → Type 0
+IsRound P Q (round.Table found) = P found
+IsRound P Q (round.Broken clauses) = Q (map (λ c. c.items) clauses.items)
 
 -- there are columns by which the facts are as their values, that are typed, and that have what was found
 pub record HasColumns (g : Signature) (nodes : List Node) (terms : List TermNode) (w : Words) (facts : List FactNode) (first : ℕ) (values : List Bool) (found : Found) : Type 0 where

@@ -1,10 +1,13 @@
 //! Fewer elements in what was found: classes of terms that nothing keeps apart become one. What
 //! comes of it is checked like any other.
 
+ghost use Rattle.sc_vocabulary.specs.Words.{IsWords};
+
 use crate::reading::columns_of;
 use crate::sides::Reader;
 use crate::solving::Ground;
-use sc_columns::{Columns, Source, check_facts, range_at};
+use sc_columns::{Columns, Pairs, Source, check_facts, found_by, range_at};
+use sc_demand::broken_congruences;
 use sc_formula::Range;
 use sc_mixed::Mixture;
 use std::alloc::{AllocError, Global};
@@ -54,23 +57,51 @@ fn with_one_for_another(
     Ok(joined)
 }
 
-/// Whether the facts are by these classes as the solver found them.
+/// Whether no clause of congruence is broken by columns.
+fn is_congruent(
+    alloc: Global,
+    reader: Reader<'_>,
+    columns: &Columns,
+    pairs: &Pairs,
+) -> Result<bool, AllocError>
+    requires { IsWords reader.terms.now reader.words.now }
+{
+    let Reader {
+        signature,
+        arena,
+        terms,
+        words,
+        texts: _,
+    } = reader;
+    let found = found_by(alloc, terms, pairs, columns)?;
+    let broken = broken_congruences(alloc, arena, signature, terms, words, &found)?;
+    Ok(broken.is_none())
+}
+
+/// Whether the facts are by these classes as the solver found them, and no clause of congruence is
+/// broken.
 fn agrees(
     alloc: Global,
     reader: Reader<'_>,
     ground: Ground<'_>,
     mixture: &Mixture,
+    pairs: &Pairs,
     classes: &[u32],
-) -> Result<bool, AllocError> {
+) -> Result<bool, AllocError>
+    requires { IsWords reader.terms.now reader.words.now }
+{
     let columns = columns_of(alloc, reader, ground.facts, ground.first, mixture, classes)?;
     let source = Source {
         arena: reader.arena,
         terms: reader.terms,
-        pairs: reader.words.pairs.as_slice(),
+        pairs,
         columns: &columns,
     };
     let values = mixture.values.as_slice();
-    Ok(check_facts(source, ground.facts, ground.first, values).is_ok())
+    if check_facts(source, ground.facts, ground.first, values).is_err() {
+        return Ok(false);
+    }
+    is_congruent(alloc, reader, &columns, pairs)
 }
 
 /// The classes where one record has been tried as each of those before it, of which one may be it.
@@ -79,11 +110,14 @@ fn join_one(
     reader: Reader<'_>,
     ground: Ground<'_>,
     mixture: &Mixture,
+    pairs: &Pairs,
     before: &[Record],
     record: Record,
     classes: &mut Vec<u32>,
     trials: &mut usize,
-) -> Result<(), AllocError> {
+) -> Result<(), AllocError>
+    requires { IsWords reader.terms.now reader.words.now }
+{
     for other in before {
         let one = classes.get(other.id).copied().unwrap_or(0);
         let another = classes.get(record.id).copied().unwrap_or(0);
@@ -95,7 +129,7 @@ fn join_one(
         };
         *trials = left;
         let joined = with_one_for_another(alloc, classes.as_slice(), one, another)?;
-        if agrees(alloc, reader, ground, mixture, joined.as_slice())? {
+        if agrees(alloc, reader, ground, mixture, pairs, joined.as_slice())? {
             *classes = joined;
             return Ok(());
         }
@@ -109,10 +143,16 @@ pub(crate) fn joined_classes(
     reader: Reader<'_>,
     ground: Ground<'_>,
     mixture: &Mixture,
-) -> Result<Vec<u32>, AllocError> {
+    pairs: &Pairs,
+) -> Result<Vec<u32>, AllocError>
+    requires { IsWords reader.terms.now reader.words.now }
+{
     let mut classes = Vec::from_slice(alloc, mixture.classes.as_slice())?;
     let own = classes.as_slice();
     let columns = columns_of(alloc, reader, ground.facts, ground.first, mixture, own)?;
+    if !is_congruent(alloc, reader, &columns, pairs)? {
+        return Ok(classes);
+    }
     let records = records_of(alloc, reader, &columns)?;
     let mut trials = MOST_TRIALS.min(MOST_FACTS / ground.facts.len().max(1));
     for k in 0..records.len() {
@@ -123,6 +163,7 @@ pub(crate) fn joined_classes(
             reader,
             ground,
             mixture,
+            pairs,
             before,
             record,
             &mut classes,

@@ -4,20 +4,26 @@
 //! - `sides`: what values are to the decision procedures.
 //! - `atoms`: facts as equalities of terms and differences of numbers.
 //! - `halves`: equalities of numbers, as their halves.
+//! - `extent`: whether the clauses of congruence are few.
+//! - `listing`: the clauses on facts that a search begins with.
 //! - `solving`: the search for values that meet clauses.
 //! - `texts`: the texts of facts.
 //! - `problem`: clauses for the solver.
 //! - `spares`: texts for classes that have none of the formula's.
 //! - `reading`: what was found, read from what the solver found.
 //! - `joining`: classes that nothing keeps apart, as one.
+//! - `round`: what one round of a search gives.
 //! - `search`: [`find_table`].
 #![tactic(auto)]
 
 mod atoms;
+mod extent;
 mod halves;
 mod joining;
+mod listing;
 mod problem;
 mod reading;
+mod round;
 mod search;
 mod sides;
 mod solving;

@@ -20,7 +20,7 @@ use std::alloc::{AllocError, Global};
 fn plits_of(alloc: Global, clause: &[Literal]) -> Result<Vec<PLit>, AllocError>
     ensures { IfOk result (λ plits. plits.items ≡ map plit_of clause.now) }
 {
-    let mut plits = Vec::new(alloc);
+    let mut plits = Vec::with_capacity(alloc, clause.len())?;
     for literal in clause {
         plits.push(PLit {
             var: literal.var,

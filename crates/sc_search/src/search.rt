@@ -1,13 +1,11 @@
 //! The search.
 
 ghost use Rattle.std.specs.Prelude.{◌≡◌, ◌++◌, Bool, List, [], Contains, IfOk, IfSome, None, length, map};
-ghost use Rattle.sc_clauses.specs.Facts.{clauses_at};
 ghost use Rattle.sc_formula.specs.NormalForm.{IsNormal};
 ghost use Rattle.sc_formula.specs.Nodes.{IsFormula, formula_of};
 ghost use Rattle.sc_formula.specs.Over.{IsOver};
 ghost use Rattle.sc_formula.specs.Trees.{Formula};
 ghost use Rattle.sc_ground.specs.TermLists.{terms_in};
-ghost use Rattle.sc_tables.specs.Clauses.{base_clauses, congruence_clauses};
 ghost use Rattle.sc_tables.specs.Vocabulary.{AreFormed};
 ghost use Rattle.sc_terms.specs.GroundTerms.{GroundTerm};
 ghost use Rattle.sc_terms.specs.Passing.{IsSatisfiableOver};
@@ -16,17 +14,22 @@ ghost use Rattle.sc_vocabulary.specs.Spoken.{IsSpoken};
 ghost use Rattle.sc_vocabulary.specs.Words.{IsWords, vocabulary_at};
 ghost use Rattle.sc_mixed.specs.declared.mixture.Mixture.{Mixture as AnyMixture};
 ghost use Rattle.sc_search.specs.Problem.{AreSolved, IsNowhere};
-ghost use Rattle.sc_search.specs.Tabled.{HasColumns, HasTable, IsGroundFor, IsTabled};
+ghost use Rattle.sc_search.specs.Tabled.{AreListed, HasColumns, HasTable, IsFoundCongruent};
+ghost use Rattle.sc_search.specs.Tabled.{IsGroundFor, IsRound, IsTabled};
+ghost use Rattle.sc_demand.specs.Congruent.{AreCongruences};
 ghost use Rattle.sc_search.specs.Texts.{StandOnce};
 
 use crate::joining::joined_classes;
+use crate::listing::{add_congruences, first_clauses};
 use crate::reading::columns_of;
+use crate::round::Round;
 use crate::sides::Reader;
 use crate::solving::{Ground, solve};
 use crate::tabled::Tabled;
 use crate::texts::{see_texts, texts_of};
-use sc_clauses::{FactLiteral, GroundClauses, base_clauses, congruence_clauses, ground_clauses};
-use sc_columns::{Source, check_facts, check_ranges, found_by};
+use sc_clauses::{FactLiteral, GroundClauses, ground_clauses};
+use sc_columns::{Pairs, Source, check_facts, check_ranges, found_by};
+use sc_demand::broken_congruences;
 use sc_formula::{Arena, Signature};
 use sc_ground::{Terms, variables_of};
 use sc_instances::{Instances, instantiate};
@@ -35,41 +38,23 @@ use sc_models::Found;
 use sc_vocabulary::{Spoken, vocabulary_of};
 use std::alloc::{AllocError, Global};
 
-/// The clauses by which a table is consistent.
-fn table_clauses(
-    alloc: Global,
-    arena: &Arena,
-    signature: &Signature,
-    spoken: &Spoken,
-) -> Result<Vec<Vec<FactLiteral>>, AllocError>
-    requires { IsWords spoken.now.made.terms spoken.now.words }
-    ensures { IfOk result (λ clauses. clauses_at arena.now spoken.now.made.terms (map (λ c.
-        c.items) clauses.items) ≡ base_clauses signature.now (vocabulary_at spoken.now.made.terms
-        spoken.now.words) ++ congruence_clauses signature.now (vocabulary_at spoken.now.made.terms
-        spoken.now.words)) }
-{
-    let terms = &spoken.made.terms;
-    let mut congruence = congruence_clauses(alloc, arena, signature, terms, &spoken.words)?;
-    let mut clauses = base_clauses(alloc, arena, signature, terms, &spoken.words)?;
-    clauses.append(&mut congruence)?;
-    Ok(clauses)
-}
-
 /// What was found by values, if the facts are so by it.
-fn found_from(
+fn found_so(
     alloc: Global,
     reader: Reader<'_>,
     ground: Ground<'_>,
     mixture: &Mixture,
+    pairs: &Pairs,
 ) -> Result<Found, AllocError>
+    requires words { IsWords reader.terms.now reader.words.now }
+    requires pairs { pairs.now ≡ reader.words.now.pairs.items }
     ensures { IfOk result (HasColumns reader.entry.signature.now reader.entry.arena.now
         reader.entry.terms.now reader.entry.words.now ground.entry.facts.now ground.entry.first
         mixture.now.values.items) }
 {
-    let classes = joined_classes(alloc, reader, ground, mixture)?;
+    let classes = joined_classes(alloc, reader, ground, mixture, pairs)?;
     let own = classes.as_slice();
     let columns = columns_of(alloc, reader, ground.facts, ground.first, mixture, own)?;
-    let pairs = reader.words.pairs.as_slice();
     let source = Source {
         arena: reader.arena,
         terms: reader.terms,
@@ -97,27 +82,62 @@ fn found_from(
     found_by(alloc, reader.terms, pairs, &columns)
 }
 
-/// What is found by clauses.
+/// What was found by values, if the facts are so by it and it is congruent; and else clauses of
+/// congruence.
+fn found_from(
+    alloc: Global,
+    reader: Reader<'_>,
+    ground: Ground<'_>,
+    mixture: &Mixture,
+) -> Result<Round, AllocError>
+    requires { IsWords reader.terms.now reader.words.now }
+    ensures { IfOk result (IsRound (λ f. HasColumns reader.entry.signature.now
+        reader.entry.arena.now reader.entry.terms.now reader.entry.words.now
+        ground.entry.facts.now ground.entry.first mixture.now.values.items f × IsFoundCongruent
+        reader.entry.terms.now reader.entry.words.now f) (AreCongruences
+        reader.entry.signature.now reader.entry.arena.now reader.entry.terms.now
+        reader.entry.words.now)) }
+{
+    let pairs = Pairs::of(alloc, reader.words.pairs.as_slice())?;
+    let found = found_so(alloc, reader, ground, mixture, &pairs)?;
+    let Reader {
+        signature,
+        arena,
+        terms,
+        words,
+        texts: _,
+    } = reader;
+    match broken_congruences(alloc, arena, signature, terms, words, &found)? {
+        None => Ok(Round::Table(found)),
+        Some(clauses) => Ok(Round::Broken(clauses)),
+    }
+}
+
+/// What is found by clauses in one round.
 fn found_by_clauses(
     alloc: Global,
     reader: Reader<'_>,
     ground: Ground<'_>,
-) -> Result<Option<Found>, AllocError>
-    requires { StandOnce reader.texts.now }
+) -> Result<Option<Round>, AllocError>
+    requires once { StandOnce reader.texts.now }
+    requires words { IsWords reader.terms.now reader.words.now }
     ensures none { IfOk result (λ found. found ≡ None → IsNowhere reader.entry.signature.now
         reader.entry.arena.now reader.entry.terms.now reader.entry.words.now
         reader.entry.texts.now ground.entry.first ground.entry.facts.now (map (λ c. c.items)
         ground.entry.clauses.now ++ map (λ c. c.items) ground.entry.gates.now)) }
-    ensures some { IfOk result (λ found. IfSome found (λ f. (m : AnyMixture) × AreSolved (map (λ c.
-        c.items) ground.entry.clauses.now ++ map (λ c. c.items) ground.entry.gates.now) m
-        × HasColumns reader.entry.signature.now reader.entry.arena.now reader.entry.terms.now
-        reader.entry.words.now ground.entry.facts.now ground.entry.first m.values.items f)) }
+    ensures some { IfOk result (λ found. IfSome found (IsRound (λ f. (m : AnyMixture) × AreSolved
+        (map (λ c. c.items) ground.entry.clauses.now ++ map (λ c. c.items)
+        ground.entry.gates.now) m × (HasColumns reader.entry.signature.now reader.entry.arena.now
+        reader.entry.terms.now reader.entry.words.now ground.entry.facts.now ground.entry.first
+        m.values.items f × IsFoundCongruent reader.entry.terms.now reader.entry.words.now f))
+        (AreCongruences reader.entry.signature.now reader.entry.arena.now reader.entry.terms.now
+        reader.entry.words.now))) }
 {
     match solve(alloc, reader, ground)? {
         None => Ok(None),
         Some(mixture) => {
-            let found = found_from(alloc, reader, ground, &mixture)?;
-            Ok(Some(found))
+            let round = found_from(alloc, reader, ground, &mixture)?;
+            Ok(Some(round))
         }
     }
 }
@@ -141,23 +161,24 @@ fn count_of_inputs(spoken: &Spoken) -> Result<u32, AllocError>
     Ok(spoken.made.inputs.len() as u32)
 }
 
-/// What is found for instances with their vocabulary, by all clauses.
+/// What is found for instances with their vocabulary in one round, by these clauses.
 fn found_for(
     alloc: Global,
     arena: &Arena,
     signature: &Signature,
     spoken: &Spoken,
     clauses: &GroundClauses,
-) -> Result<Option<Found>, AllocError>
+) -> Result<Option<Round>, AllocError>
     requires { IsWords spoken.now.made.terms spoken.now.words }
     ensures none { IfOk result (λ found. found ≡ None → (f : Formula) (terms : List GroundTerm)
         (closed : Bool) → IsOver signature.now [] f → IsNormal f → IsSpoken signature.now arena.now
         f terms closed spoken.now → IsGroundFor signature.now arena.now spoken.now clauses.now →
         IsSatisfiableOver signature.now f (Contains terms) → ⊥) }
-    ensures some { IfOk result (λ found. IfSome found (λ found. (f : Formula) (terms : List
-        GroundTerm) (closed : Bool) → IsOver signature.now [] f → IsNormal f → IsSpoken
-        signature.now arena.now f terms closed spoken.now → IsGroundFor signature.now arena.now
-        spoken.now clauses.now → HasTable signature.now f terms spoken.now found)) }
+    ensures some { IfOk result (λ found. IfSome found (IsRound (λ found. (f : Formula)
+        (terms : List GroundTerm) (closed : Bool) → IsOver signature.now [] f → IsNormal f →
+        IsSpoken signature.now arena.now f terms closed spoken.now → IsGroundFor signature.now
+        arena.now spoken.now clauses.now → HasTable signature.now f terms spoken.now found)
+        (AreCongruences signature.now arena.now spoken.now.made.terms spoken.now.words))) }
 {
     let _gates = spoken.made.gates.len();
     let _nodes = arena.len();
@@ -187,7 +208,38 @@ fn found_for(
     found_by_clauses(alloc, reader, ground)
 }
 
-/// What is found for instances with their vocabulary.
+/// What is found for instances with their vocabulary in one round, by these clauses on facts.
+fn round_by(
+    alloc: Global,
+    arena: &Arena,
+    signature: &Signature,
+    spoken: &Spoken,
+    facts: &[Vec<FactLiteral>],
+) -> Result<Option<Round>, AllocError>
+    requires words { IsWords spoken.now.made.terms spoken.now.words }
+    requires fields { AreFieldsOf spoken.now.made.terms spoken.now.made.inputs
+        spoken.now.fields.items }
+    requires listed { AreListed signature.now arena.now spoken.now.made.terms spoken.now.words
+        (map (λ c. c.items) facts.now) }
+    ensures none { IfOk result (λ found. found ≡ None → (f : Formula) (terms : List GroundTerm)
+        (closed : Bool) → IsOver signature.now [] f → IsNormal f → IsSpoken signature.now arena.now
+        f terms closed spoken.now → IsSatisfiableOver signature.now f (Contains terms) → ⊥) }
+    ensures some { IfOk result (λ found. IfSome found (IsRound (λ found. (f : Formula)
+        (terms : List GroundTerm) (closed : Bool) → IsOver signature.now [] f → IsNormal f →
+        IsSpoken signature.now arena.now f terms closed spoken.now → HasTable signature.now f terms
+        spoken.now found) (AreCongruences signature.now arena.now spoken.now.made.terms
+        spoken.now.words))) }
+{
+    let clauses = ground_clauses(alloc, arena, spoken, facts)?;
+    found_for(alloc, arena, signature, spoken, &clauses)
+}
+
+/// How many rounds a search has at most. Each adds a clause of congruence that all before lack, so a
+/// search ends long before.
+const MOST_ROUNDS: u32 = u32::MAX;
+
+/// What is found for instances with their vocabulary. Clauses of congruence are added where what a
+/// round found breaks some.
 fn table_for(
     alloc: Global,
     arena: &Arena,
@@ -205,9 +257,15 @@ fn table_for(
         signature.now arena.now f terms closed spoken.now → HasTable signature.now f terms
         spoken.now found)) }
 {
-    let facts = table_clauses(alloc, arena, signature, spoken)?;
-    let clauses = ground_clauses(alloc, arena, spoken, facts.as_slice())?;
-    found_for(alloc, arena, signature, spoken, &clauses)
+    let mut facts = first_clauses(alloc, arena, signature, spoken)?;
+    for _round in 0..MOST_ROUNDS {
+        match round_by(alloc, arena, signature, spoken, facts.as_slice())? {
+            None => return Ok(None),
+            Some(Round::Table(found)) => return Ok(Some(found)),
+            Some(Round::Broken(more)) => add_congruences(more, &mut facts)?,
+        }
+    }
+    Err(AllocError)
 }
 
 /// The instances of a formula with their vocabulary.

@@ -106,11 +106,12 @@ fn term_side(reader: Reader<'_>, id: u32) -> Result<Side, AllocError>
     ensures { IfOk result (IsSide reader.entry.signature.now reader.entry.arena.now
         reader.entry.terms.now reader.entry.words.now reader.entry.texts.now (Value.Term id)) }
 {
-    let listed = is_listed(reader.words, id);
     match range_at(reader.signature, reader.terms, id) {
         Some(Range::Rec(sort)) => Ok(Side::Element(sort, id)),
-        Some(Range::Num) if listed && id < u32::MAX => Ok(Side::Number(id + 1, 0)),
-        Some(Range::Str) if listed => Ok(Side::Text(id)),
+        Some(Range::Num) if id < u32::MAX && is_listed(reader.words, id) => {
+            Ok(Side::Number(id + 1, 0))
+        }
+        Some(Range::Str) if is_listed(reader.words, id) => Ok(Side::Text(id)),
         Some(Range::Num | Range::Str | Range::Flag) | None => Err(AllocError),
     }
 }

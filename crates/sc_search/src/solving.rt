@@ -142,11 +142,23 @@ pub(crate) struct Ground<'a> {
     pub(crate) gates: &'a [Vec<Literal>],
 }
 
-/// That no sort has an element, which is tried first: the less there is, the better it is read.
+/// Whether a fact is tried as true first: that a sort has no element, since the less there is, the
+/// better it is read, and that a value is itself, which no model denies.
+fn is_tried_first(fact: FactNode) -> bool {
+    match fact {
+        FactNode::Empty(_) => true,
+        FactNode::Same(v, u) => v == u,
+        FactNode::Below(..) | FactNode::There(_) | FactNode::Raised(_) | FactNode::Related(_) => {
+            false
+        }
+    }
+}
+
+/// The values that are tried first.
 fn values_first(alloc: Global, facts: &[FactNode], first: u32) -> Result<Vec<PLit>, AllocError> {
     let mut values = Vec::new(alloc);
     for place in 0..facts.len() {
-        if let FactNode::Empty(_) = facts[place] {
+        if is_tried_first(facts[place]) {
             let Some(var) = first.checked_add(u32::try_from(place).map_err(|_| AllocError)?) else {
                 return Err(AllocError);
             };

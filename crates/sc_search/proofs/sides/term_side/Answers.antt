@@ -1,4 +1,4 @@
-use Rattle.std.proofs.Common.{inl, refl}
+use Rattle.std.proofs.Common.{inl, refl, rules}
 use Rattle.sc_search.proofs.Halved.{told_by}
 use Rattle.sc_search.proofs.sides.term_side.Goals as goal
 
@@ -8,7 +8,7 @@ returns-in-Some-Num c =
       id = c.args.id;
       value = refl;
       told_there = told_by c.args.reader.signature.now c.args.reader.arena.now c.args.reader.terms.now c.args.reader.words.now c.args.reader.texts.now c.args.id c.in-Some-Num.ensures.one
-          (c.is_listed-listed.ensures c.if-listed.true);
+          (search rules);
       ranged = let range = c.in-Some-Num.ensures.range in let is = c.in-Some-Num.field-0-is in cc;
       behind = refl;
       itself = refl;
@@ -19,6 +19,6 @@ returns-in-Some-Str c =
     inl (record {
       value = refl;
       told_there = told_by c.args.reader.signature.now c.args.reader.arena.now c.args.reader.terms.now c.args.reader.words.now c.args.reader.texts.now c.args.id c.in-Some-Str.ensures.one
-          (c.is_listed-listed.ensures c.if-listed-2.true);
+          (search rules);
       ranged = let range = c.in-Some-Str.ensures.range in let is = c.in-Some-Str.field-0-is in cc;
     })

@@ -1,0 +1,6 @@
+pub mod CongruentMet
+pub mod Functional
+pub mod KeyLaws
+pub mod PairLaws
+pub mod Parts
+pub mod Steps

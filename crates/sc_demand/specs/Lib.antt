@@ -1,0 +1,5 @@
+pub mod Congruent
+pub mod Few
+pub mod Keys
+pub mod Public
+pub mod Settled

@@ -1,0 +1,88 @@
+//! The clauses of congruence that what was found breaks.
+
+ghost use Rattle.std.specs.Prelude.{◌≡◌, ◌++◌, [], None, IfOk, IfSome, map, true};
+ghost use Rattle.sc_formula.specs.declared.structure.Signature.{Signature as AnySignature};
+ghost use Rattle.sc_tables.specs.Table.{Table};
+ghost use Rattle.sc_models.specs.Found.{IsFound};
+ghost use Rattle.sc_vocabulary.specs.Words.{IsWords, vocabulary_at};
+ghost use Rattle.sc_demand.specs.Congruent.{AreCongruences, IsCongruent};
+
+use crate::few::{Speech, push_each_pairs, push_each_terms};
+use crate::keys::Source;
+use crate::pairs::pair_rivals_among;
+use crate::terms::{Rivals, rivals_among};
+use sc_clauses::FactLiteral;
+use sc_formula::{Arena, Signature};
+use sc_models::Found;
+use sc_term_arena::TermArena;
+use sc_vocabulary::Words;
+use std::alloc::{AllocError, Global};
+
+/// All terms of which words tell.
+fn told_of(alloc: Global, words: &Words) -> Result<Vec<u32>, AllocError>
+    ensures { IfOk result (λ told. told.items ≡ words.now.named.items ++ words.now.others.items) }
+{
+    let mut told = Vec::from_slice(alloc, words.named.as_slice())?;
+    told.extend_from_slice(words.others.as_slice())?;
+    Ok(told)
+}
+
+/// Whether there are no rivals.
+fn are_none(terms: &[Rivals], pairs: &[Rivals]) -> bool
+    ensures terms { result ≡ true → terms.now ≡ [] }
+    ensures pairs { result ≡ true → pairs.now ≡ [] }
+{
+    terms.is_empty() && pairs.is_empty()
+}
+
+/// The clauses of some terms and pairs.
+fn clauses_on(
+    alloc: Global,
+    speech: Speech<'_>,
+    terms: &[Rivals],
+    pairs: &[Rivals],
+) -> Result<Vec<Vec<FactLiteral>>, AllocError>
+    requires { IsWords speech.terms.now speech.words.now }
+    ensures { IfOk result (λ clauses. AreCongruences speech.entry.signature.now
+        speech.entry.arena.now speech.entry.terms.now speech.entry.words.now
+        (map (λ c. c.items) clauses.items)) }
+{
+    let mut clauses = Vec::new(alloc);
+    push_each_terms(alloc, speech, terms, &mut clauses)?;
+    push_each_pairs(alloc, speech, pairs, &mut clauses)?;
+    Ok(clauses)
+}
+
+/// Some clauses of congruence, among them one that what was found breaks, if there is one; None only
+/// where it is congruent. Time and memory go with the terms and the pairs, not with their square.
+pub fn broken_congruences(
+    alloc: Global,
+    arena: &Arena,
+    signature: &Signature,
+    terms: &TermArena,
+    words: &Words,
+    found: &Found,
+) -> Result<Option<Vec<Vec<FactLiteral>>>, AllocError>
+    requires { IsWords terms.now words.now }
+    ensures none { IfOk result (λ broken. broken ≡ None → (g : AnySignature) (table : Table) →
+        IsFound g terms.now words.now.pairs.items found.now table →
+        IsCongruent (vocabulary_at terms.now words.now) table) }
+    ensures some { IfOk result (λ broken. IfSome broken (λ clauses. AreCongruences signature.now
+        arena.now terms.now words.now (map (λ c. c.items) clauses.items))) }
+{
+    let source = Source { terms, found };
+    let told = told_of(alloc, words)?;
+    let rivals = rivals_among(alloc, source, told.as_slice())?;
+    let pair_rivals = pair_rivals_among(alloc, source, words.pairs.as_slice())?;
+    if are_none(rivals.as_slice(), pair_rivals.as_slice()) {
+        return Ok(None);
+    }
+    let speech = Speech {
+        arena,
+        signature,
+        terms,
+        words,
+    };
+    let clauses = clauses_on(alloc, speech, rivals.as_slice(), pair_rivals.as_slice())?;
+    Ok(Some(clauses))
+}
