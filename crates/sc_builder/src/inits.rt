@@ -26,7 +26,7 @@ use sc_writer::{MakeErr, Mode, Term, Writer};
 use std::alloc::{AllocError, Global};
 
 /// Writes that a use of a field in an initialiser, of this number counted from 0, reads its field
-/// of the record that `source` is, where the initialiser is taken at the record that `record` is
+/// of the record that `source` is, where the initialiser is taken at the record that `row` is
 /// and so many added fields are written out.
 pub fn reached(
     w: &mut Writer,
@@ -34,17 +34,17 @@ pub fn reached(
     upto: usize,
     init: &TInit,
     number: usize,
-    record: &Term<'_>,
+    row: &Term<'_>,
     source: &Term<'_>,
     above: u32,
     fuel: u32,
 ) -> Result<u32, MakeErr>
     ensures { let c = start.now in Makes w.old result w.new
         (init_reach (schema_in c) (written_upto c upto) (term_data source.now)
-        (init_of init.now) (term_data record.now) number above) }
+        (init_of init.now) (term_data row.now) number above) }
 {
     let none = Scene::Start(upto);
-    let end = End::Term(record);
+    let end = End::Term(row);
     let scene = Scene::Inner(&none, &end);
     let used = use_of(init, number);
     write(w, start, &Part::Reach(&scene, &used, source), above, fuel)

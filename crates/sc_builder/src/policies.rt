@@ -18,8 +18,9 @@ use sc_schema::TPolicy;
 use sc_writer::{MakeErr, Mode, Term, Writer};
 use std::alloc::{AllocError, Global};
 
-/// How deep a walk may go. Each form of an expression that is not done yet takes a few steps.
-pub const MOST_FUEL: u32 = 20_000;
+/// How deep a walk may go. Each form of an expression that is not done yet takes a few steps, and a
+/// step takes some 435 bytes of the stack: two thirds of the 8 MB that a process has by default.
+pub const MOST_FUEL: u32 = 12_000;
 
 /// The size at which sizes stay.
 pub(crate) const MOST_SIZE: u64 = 1_000_000;
@@ -31,7 +32,7 @@ pub fn allowed(
     start: &Start<'_>,
     upto: usize,
     policy: &TPolicy,
-    record: &Term<'_>,
+    row: &Term<'_>,
     who: &Who<'_>,
     sign: bool,
     above: u32,
@@ -39,14 +40,14 @@ pub fn allowed(
 ) -> Result<u32, MakeErr>
     ensures { let c = start.now in Makes w.old result w.new
         (asked.is_allowed (schema_in c) (written_upto c upto) (policy_of policy.now)
-        (term_data record.now) (who_data who.now) sign above) }
+        (term_data row.now) (who_data who.now) sign above) }
 {
     match policy {
         TPolicy::Everyone => w.constant(sign),
         TPolicy::Nobody => w.constant(!sign),
         TPolicy::Fun(_, set) => {
             let none = Scene::Start(upto);
-            let end = End::Term(record);
+            let end = End::Term(row);
             let scene = Scene::Inner(&none, &end);
             write(w, start, &Part::Member(&scene, set, who, sign), above, fuel)
         }

@@ -30,7 +30,7 @@ none-in-both {A} p (x ∷ xs) ys ex ey =
       | false ↦ λ h. none-in-both p xs ys h ey
     ] ex
 
-found-first : {A : Type 0} (p : A → Bool) (xs ys : List A) (a : A) → find p (xs ++ ys) ≡ Some a → find p ys ≡ None → find p xs ≡ Some a
+pub found-first : {A : Type 0} (p : A → Bool) (xs ys : List A) (a : A) → find p (xs ++ ys) ≡ Some a → find p ys ≡ None → find p xs ≡ Some a
 found-first p [] ys a e none = cc
 found-first {A} p (x ∷ xs) ys a e none =
     elim (p x) as (λ (b : Bool). cond b (Some x) (find p (xs ++ ys)) ≡ Some a → cond b (Some x) (find p xs) ≡ Some a) [
@@ -39,7 +39,7 @@ found-first {A} p (x ∷ xs) ys a e none =
     ] e
 
 -- where no command makes one, none is found
-none-made : {A C : Type 0} (p : A → Bool) (made : C → List A) (cs : List C) → list_any (λ c. list_any p (made c)) cs ≡ false → find p (flat_map made cs) ≡ None
+pub none-made : {A C : Type 0} (p : A → Bool) (made : C → List A) (cs : List C) → list_any (λ c. list_any p (made c)) cs ≡ false → find p (flat_map made cs) ≡ None
 none-made p made [] e = refl
 none-made {A} {C} p made (c ∷ cs) e =
     elim (list_any p (made c)) as (λ (b : Bool). list_any p (made c) ≡ b → (b || list_any (λ x. list_any p (made x)) cs) ≡ false → find p (made c ++ flat_map made cs) ≡ None) [

@@ -34,7 +34,7 @@ use Rattle.sc_witness_told.proofs.Numbered.{counted, same-number, front-distinct
 
 -- ---- lists and options
 
-some-of : {A : Type 0} (o : Option A) → is_some o ≡ true → (a : A) × (o ≡ Some a)
+pub some-of : {A : Type 0} (o : Option A) → is_some o ≡ true → (a : A) × (o ≡ Some a)
 some-of None h = cc
 some-of (Some a) h = (a, refl)
 
@@ -59,7 +59,7 @@ line-end r = record { ends = refl; plain = λ h. absurd (omega (arith, h)); stop
 
 -- ---- what a command adds
 
-only : (b : Bool) → (b || false) ≡ true → b ≡ true
+pub only : (b : Bool) → (b || false) ≡ true → b ≡ true
 only true e = refl
 only false e = cc
 
@@ -89,7 +89,7 @@ one-static (weaken_field k f read write reason) m n hm hn = cc
 one-static (update_model k create delete) m n hm hn = cc
 one-static (weaken_model k create delete reason) m n hm hn = cc
 
-made-all : (commands : List Command) → created commands ≡ flat_map created_by commands
+pub made-all : (commands : List Command) → created commands ≡ flat_map created_by commands
 made-all [] = refl
 made-all (c ∷ commands) = ap (λ ms. created_by c ++ ms) (made-all commands)
 

@@ -1,0 +1,65 @@
+//! The worked database: an admin of 30 years, who is the manager of both, and a user of 20.
+
+ghost use Rattle.std.specs.Prelude.{◌≡◌};
+
+use sc_ast::Txt;
+use sc_records::{Database, Value};
+use sc_schema::{ModelInfo, Schema};
+use std::alloc::Global;
+use std::test::Fail;
+
+fn text(alloc: Global, bytes: &[u8]) -> Result<Value, Fail> {
+    match Txt::make(Vec::from_slice(alloc, bytes)?) {
+        Some(text) => Ok(Value::Str(text)),
+        None => Err(Fail::new("no text")),
+    }
+}
+
+/// The values of a user's fields, in their order.
+fn row(
+    alloc: Global,
+    email: &[u8],
+    age: i64,
+    admin: bool,
+    secret: &[u8],
+) -> Result<Vec<Value>, Fail> {
+    let mut row = Vec::new(alloc);
+    row.push(text(alloc, email)?)?;
+    row.push(Value::Num(age))?;
+    row.push(Value::Flag(admin))?;
+    row.push(text(alloc, secret)?)?;
+    row.push(Value::Id(1))?;
+    Ok(row)
+}
+
+/// Puts the record into the database.
+fn insert(
+    alloc: Global,
+    database: &mut Database,
+    info: &ModelInfo,
+    row: &[Value],
+) -> Result<(), Fail> {
+    if info.fields.as_slice().len() != row.len() {
+        return Err(Fail::new("other fields"));
+    }
+    database.insert(alloc, info, row)?;
+    Ok(())
+}
+
+/// Puts the two users into the database.
+fn insert_two(alloc: Global, database: &mut Database, info: &ModelInfo) -> Result<(), Fail> {
+    let first = row(alloc, b"a@x", 30, true, b"s1")?;
+    insert(alloc, database, info, first.as_slice())?;
+    let second = row(alloc, b"b@x", 20, false, b"s2")?;
+    insert(alloc, database, info, second.as_slice())
+}
+
+/// The database of the two users, over a schema whose first model is theirs.
+pub fn two_users(alloc: Global, schema: &Schema) -> Result<Database, Fail> {
+    let mut database = Database::empty(alloc, schema)?;
+    match schema.models.as_slice().first() {
+        Some(info) => insert_two(alloc, &mut database, info)?,
+        None => return Err(Fail::new("no model")),
+    }
+    Ok(database)
+}

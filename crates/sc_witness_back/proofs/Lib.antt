@@ -1,0 +1,10 @@
+pub mod BaseRead
+pub mod Gained
+pub mod HeadRead
+pub mod Leaked
+pub mod Names
+pub mod NamesTold
+pub mod Present
+pub mod ReadBack
+pub mod Searches
+pub mod UsesThere

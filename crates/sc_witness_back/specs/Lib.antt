@@ -1,0 +1,4 @@
+pub mod Back
+pub mod Printed
+pub mod Public
+pub mod Scripts
