@@ -1,0 +1,5 @@
+//! Tests of databases that are read from their texts.
+#![tactic(auto)]
+
+#[cfg(test)]
+mod tests;

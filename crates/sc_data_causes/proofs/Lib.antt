@@ -1,0 +1,4 @@
+pub mod GrammarAnswers
+pub mod GrammarFits
+pub mod Refusals
+pub mod WholeLists

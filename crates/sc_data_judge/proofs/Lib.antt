@@ -1,0 +1,13 @@
+pub mod Each
+pub mod Examples
+pub mod Exists
+pub mod First
+pub mod Found
+pub mod Held
+pub mod One
+pub mod Order
+pub mod Sets
+pub mod Sound
+pub mod Standard
+pub mod Tests
+pub mod Typed

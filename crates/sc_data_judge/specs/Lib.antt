@@ -1,0 +1,11 @@
+pub mod Faults
+pub mod First
+pub mod Judged
+pub mod Laid
+pub mod Limits
+pub mod Meaning
+pub mod Named
+pub mod Public
+pub mod Ranged
+pub mod References
+pub mod Worked

@@ -1,0 +1,12 @@
+-- How much a database that is read may hold.
+use Rattle.std.specs.Prelude.{nat_lt, Option, None, Some, if◌then◌else◌}
+use Rattle.sc_data.specs.Database.{Database}
+use Rattle.sc_records.specs.Room.{most_records, most_weight, record_count, total_weight}
+use Rattle.sc_records.specs.declared.data_err.Limit.{Limit}
+use Rattle.sc_records.specs.declared.data_err.Limit.TheVariants as limit
+
+-- of what it holds too much: first of records, then of weight
+abbrev pub excess : Database → Option Limit
+excess d =
+    if nat_lt most_records (record_count d) then Some limit.Records
+    else (if nat_lt most_weight (total_weight d) then Some limit.Weight else None)

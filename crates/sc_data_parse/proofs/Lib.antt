@@ -1,0 +1,6 @@
+pub mod Folds
+pub mod JudgedTexts
+pub mod Nesting
+pub mod OneText
+pub mod Starts
+pub mod Taken

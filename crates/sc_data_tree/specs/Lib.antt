@@ -1,0 +1,4 @@
+pub mod Grammar
+pub mod Literals
+pub mod Public
+pub mod Texts
