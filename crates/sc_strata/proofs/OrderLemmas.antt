@@ -1,6 +1,6 @@
 -- The steps of a search for an order.
-use Rattle.std.proofs.Common.{◌≡◌, ◌≢◌, ℕ, ◌+◌, ◌<◌, ◌≤◌, ◌⊎◌, inl, inr, Bool, true, false, cond, refl, sym, ◌∙◌, List, [], ◌∷◌, ◌++◌, length, get_or, ap, subst, arith, rules, length-append, get_or-set_other, get_or-set_same}
-use Rattle.std.specs.Prelude.{All, AllPairs, Contains, sum_by}
+use Rattle.std.proofs.Common.{◌≡◌, ◌≢◌, ℕ, ◌+◌, ◌<◌, ◌≤◌, ◌⊎◌, inl, inr, Bool, true, false, cond, refl, sym, ◌∙◌, List, [], ◌∷◌, ◌++◌, length, get_or, ap, subst, arith, rules, Option, None, Some, length-append, get_or-set_other, get_or-set_same}
+use Rattle.std.specs.Prelude.{All, AllPairs, Contains, MatchOption, sum_by}
 use Rattle.std.proofs.Math.Logic.{⊎_elim}
 use Rattle.std.proofs.Math.ListN.{set, length-set}
 use Rattle.std.proofs.Math.Seq.{get_or-append_seam}
@@ -12,8 +12,10 @@ use Rattle.sc_strata.specs.declared.order.Mark.{Mark}
 use Rattle.sc_strata.specs.declared.order.Mark.TheVariants.{Unseen, Open, Done}
 use Rattle.sc_strata.specs.declared.order.Search.{Search}
 use Rattle.sc_strata.specs.Order.{IsBefore, IsOrder, IsCycle}
-use Rattle.sc_strata.specs.Search.{mark_at, is_done_mark, AreEdgesBelow, LeadsOn, IsPath, IsState, IsSearch, weight, last_of, IsTurn, IsBegun}
+use Rattle.sc_strata.specs.Search.{mark_at, is_done_mark, AreEdgesBelow, AreLeft, LeadsOn, IsPath, IsState, IsSearch, weight, last_of, IsTurn, IsBegun}
+use Rattle.sc_strata.specs.Places.{edge_at}
 use Rattle.sc_strata.specs.SortGraph.{IsWalk}
+use Rattle.sc_strata.proofs.PlaceLemmas.{left_marked}
 
 mark_same : (marks : List Mark) (v : ℕ) (m : Mark) → v < length marks → mark_at (set marks v m) v ≡ m
 mark_same marks v m within = rw get_or-set_same refl
@@ -102,6 +104,40 @@ is_done_then : (m : Mark) → is_done_mark m ≡ true → m ≡ Done
 is_done_then Unseen e = cc
 is_done_then Open e = cc
 is_done_then Done e = refl
+
+-- what a look at the edges to a vertex gives
+abbrev pub Found : List (ℕ × ℕ) → List Mark → ℕ → Option ℕ → Type 0
+Found graph marks v found =
+    MatchOption found ((a : ℕ) → Contains graph (a, v) → mark_at marks a ≡ Done) (λ a. Contains graph (a, v) × (mark_at marks a ≢ Done))
+
+pub found_none : (graph : List (ℕ × ℕ)) (marks : List Mark) (v : ℕ) (found : Option ℕ) → found ≡ None → Found graph marks v found
+    → (a : ℕ) → Contains graph (a, v) → mark_at marks a ≡ Done
+found_none graph marks v found is h = subst (Found graph marks v) is h
+
+pub found_some : (graph : List (ℕ × ℕ)) (marks : List Mark) (v from : ℕ) (found : Option ℕ) → found ≡ Some from → Found graph marks v found
+    → Contains graph (from, v) × (mark_at marks from ≢ Done)
+found_some graph marks v from found is h = subst (Found graph marks v) is h
+
+-- the places that are left stay right where a vertex is done, or one that is not done comes on the path
+pub left_finished : (graph : List (ℕ × ℕ)) (marks marks' : List Mark) (left left' : List (List ℕ)) (v : ℕ) → v < length marks → left' ≡ left → marks' ≡ set marks v Done
+    → AreLeft graph marks left → AreLeft graph marks' left'
+left_finished graph marks marks' left left' v within l m h =
+    left_marked graph marks marks' left left' l (ap length m ∙ length-set marks v Done) (λ u is. subst (λ (ms : List Mark). mark_at ms u ≡ Done) (sym m) (kept u is)) h
+  where
+    kept : (u : ℕ) → mark_at marks u ≡ Done → mark_at (set marks v Done) u ≡ Done
+    kept u is =
+        ⊎_elim (λ (same : u ≡ v). let P : ℕ → Type 0 = λ k. mark_at (set marks v Done) k ≡ Done in subst P (sym same) (mark_same marks v Done within))
+        (λ (apart : u ≢ v). mark_other marks v u Done apart ∙ is) (same_or_not u v)
+
+pub left_entered : (graph : List (ℕ × ℕ)) (marks marks' : List Mark) (left left' : List (List ℕ)) (v : ℕ) → (mark_at marks v ≡ Done → ⊥) → left' ≡ left → marks' ≡ set marks v Open
+    → AreLeft graph marks left → AreLeft graph marks' left'
+left_entered graph marks marks' left left' v fresh l m h =
+    left_marked graph marks marks' left left' l (ap length m ∙ length-set marks v Open) (λ u is. subst (λ (ms : List Mark). mark_at ms u ≡ Done) (sym m) (kept u is)) h
+  where
+    kept : (u : ℕ) → mark_at marks u ≡ Done → mark_at (set marks v Open) u ≡ Done
+    kept u is =
+        ⊎_elim (λ (same : u ≡ v). let P : ℕ → Type 0 = λ k. mark_at marks k ≡ Done in absurd (fresh (subst P same is)))
+        (λ (apart : u ≢ v). mark_other marks v u Open apart ∙ is) (same_or_not u v)
 
 pub fewer_left : (marks : List Mark) (v : ℕ) → v < length marks → sum_by weight (set marks v Done) ≤ sum_by weight marks
 fewer_left marks v within = omega (arith, sum_by-set weight marks v Done Unseen within)
@@ -262,6 +298,24 @@ state_at graph n marks marks' path path' order order' m p o s =
     subst (λ (xs : List Mark). IsState graph n xs path' order') (sym m)
     (subst (λ (xs : List ℕ). IsState graph n marks xs order') (sym p) (subst (λ (xs : List ℕ). IsState graph n marks path xs) (sym o) s))
 
+-- the last place of a list is taken, since its edge leads from a vertex that is done
+pub place_taken : (graph : List (ℕ × ℕ)) (marks : List Mark) (whole top places : List ℕ) (place : ℕ) → top ≡ places ++ place ∷ [] → mark_at marks (edge_at graph place).0 ≡ Done
+    → All (λ k. k < length graph) top × ((k : ℕ) → Contains top k → Contains whole k)
+    × ((k : ℕ) → Contains whole k → (mark_at marks (edge_at graph k).0 ≡ Done) ⊎ Contains top k)
+    → All (λ k. k < length graph) places × ((k : ℕ) → Contains places k → Contains whole k)
+    × ((k : ℕ) → Contains whole k → (mark_at marks (edge_at graph k).0 ≡ Done) ⊎ Contains places k)
+place_taken graph marks whole top places place e done h = (
+  All_front (λ k. k < length graph) places place (subst (λ (xs : List ℕ). All (λ k. k < length graph) xs) e h.0),
+  λ k c. h.1 k (subst (λ (xs : List ℕ). Contains xs k) (sym e) (Contains-append_left places (place ∷ []) k c)),
+  λ k c.
+      ⊎_elim (λ (is : mark_at marks (edge_at graph k).0 ≡ Done). inl is)
+      (λ (there : Contains top k).
+      ⊎_elim (λ (early : Contains places k). inr early)
+      (λ (last : place ≡ k). inl (subst (λ (i : ℕ). mark_at marks (edge_at graph i).0 ≡ Done) last done))
+      (Contains-push_cases places place k (subst (λ (xs : List ℕ). Contains xs k) e there)))
+      (h.2 k c),
+)
+
 walk_push : (graph : List (ℕ × ℕ)) (from : ℕ) (xs : List ℕ) (v : ℕ) → IsWalk graph from xs → Contains graph (last_of from xs, v) → IsWalk graph from (xs ++ v ∷ [])
 walk_push graph from [] v h k = (k, tt)
 walk_push graph from (x ∷ xs) v h k = (h.0, walk_push graph x xs v h.1 k)
@@ -347,7 +401,7 @@ begun_done graph n marks path order start is s =
 pub begun_at : (graph : List (ℕ × ℕ)) (n start : ℕ) (old new : Search) → IsBegun old start new → IsSearch graph n old → old.path.items ≡ []
     → IsSearch graph n new × ((v : ℕ) → (mark_at old.marks.items v ≢ Unseen) ⊎ (v ≡ start) → mark_at new.marks.items v ≢ Unseen)
 begun_at graph n start old new begun s empty =
-    let size : length old.marks.items ≡ n = s.size in
+    let size : length old.marks.items ≡ n = s.state.size in
     subst (λ (k : ℕ). IsSearch graph k new × ((v : ℕ) → (mark_at old.marks.items v ≢ Unseen) ⊎ (v ≡ start) → mark_at new.marks.items v ≢ Unseen)) size
     (begun graph (subst (λ (k : ℕ). IsSearch graph k old) (sym size) s) empty)
 

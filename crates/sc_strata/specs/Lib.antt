@@ -1,6 +1,7 @@
 pub mod Dependence
 pub mod Order
 pub mod Pending
+pub mod Places
 pub mod Public
 pub mod Search
 pub mod SortGraph

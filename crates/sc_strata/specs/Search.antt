@@ -1,5 +1,5 @@
 -- The state of a search for an order.
-use Rattle.std.specs.Prelude.{◌≡◌, ◌≢◌, ℕ, ◌+◌, ◌<◌, ◌⊎◌, Bool, true, false, List, [], ◌∷◌, length, All, AllPairs, Contains, slice_index_or, sum_by}
+use Rattle.std.specs.Prelude.{◌≡◌, ◌≢◌, ℕ, ◌+◌, ◌<◌, ◌⊎◌, Bool, true, false, List, [], ◌∷◌, map, length, All, AllPairs, Contains, slice_index_or, sum_by}
 use Rattle.sc_strata.specs.declared.order.Mark.{Mark}
 use Rattle.sc_strata.specs.declared.order.Mark.TheVariants.{Unseen, Open, Done}
 use Rattle.sc_strata.specs.declared.order.Search.{Search}
@@ -7,6 +7,7 @@ use Rattle.sc_strata.specs.declared.order.Sorted.{Sorted}
 use Rattle.sc_strata.specs.declared.order.Sorted.TheVariants.{Order, Cycle}
 use Rattle.sc_strata.specs.SortGraph.{IsWalk}
 use Rattle.sc_strata.specs.Order.{IsBefore, IsOrder, IsCycle}
+use Rattle.sc_strata.specs.Places.{edge_at, places_at}
 
 abbrev pub mark_at : List Mark → ℕ → Mark
 mark_at marks v = slice_index_or marks v Unseen
@@ -44,8 +45,15 @@ pub record IsState (graph : List (ℕ × ℕ)) (n : ℕ) (marks : List Mark) (pa
   pub opened : (v : ℕ) → v < n → mark_at marks v ≡ Open → Contains path v
   pub path_small : All (λ v. v < n) path
 
-abbrev pub IsSearch : List (ℕ × ℕ) → ℕ → Search → Type 0
-IsSearch graph n s = IsState graph n s.marks.items s.path.items s.order.items
+-- each vertex has a list of places of edges to it, and an edge that is gone from them leads from a vertex that is done
+pub record AreLeft (graph : List (ℕ × ℕ)) (marks : List Mark) (left : List (List ℕ)) : Type 0 where
+  pub size : length left ≡ length marks
+  pub sound : (k b : ℕ) → Contains (places_at left b) k → (k < length graph) × ((edge_at graph k).1 ≡ b)
+  pub whole : (k : ℕ) → k < length graph → (mark_at marks (edge_at graph k).0 ≡ Done) ⊎ Contains (places_at left (edge_at graph k).1) k
+
+pub record IsSearch (graph : List (ℕ × ℕ)) (n : ℕ) (s : Search) : Type 0 where
+  pub state : IsState graph n s.marks.items s.path.items s.order.items
+  pub left : AreLeft graph s.marks.items (map (λ l. l.items) s.left.items)
 
 -- how much is left to do
 abbrev pub weight : Mark → ℕ

@@ -2,6 +2,7 @@
 //!
 //! - `term_edges`: those of terms.
 //! - `edges`: the edges of the graph, from a walk over the formula.
+//! - `places`: the places in a graph of the edges to each vertex.
 //! - `order`: an order or a cycle of a graph.
 //! - `sort_graph`: both together.
 //! - `answer`: `Strata`, what is found.
@@ -10,6 +11,7 @@
 mod answer;
 mod edges;
 mod order;
+mod places;
 mod sort_graph;
 mod term_edges;
 
