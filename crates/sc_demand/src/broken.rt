@@ -1,6 +1,6 @@
 //! The clauses of congruence that what was found breaks.
 
-ghost use Rattle.std.specs.Prelude.{◌≡◌, ◌++◌, [], None, IfOk, IfSome, map, true};
+ghost use Rattle.std.specs.Prelude.{◌≡◌, ◌≢◌, ◌++◌, [], None, IfOk, IfSome, map, true};
 ghost use Rattle.sc_formula.specs.declared.structure.Signature.{Signature as AnySignature};
 ghost use Rattle.sc_tables.specs.Table.{Table};
 ghost use Rattle.sc_models.specs.Found.{IsFound};
@@ -53,8 +53,21 @@ fn clauses_on(
     Ok(clauses)
 }
 
-/// Some clauses of congruence, among them one that what was found breaks, if there is one; None only
-/// where it is congruent. Time and memory go with the terms and the pairs, not with their square.
+/// The clauses, if there are any. That there are none, though terms or pairs are rivals, counts as
+/// memory that is not there.
+fn some_of(clauses: Vec<Vec<FactLiteral>>) -> Result<Vec<Vec<FactLiteral>>, AllocError>
+    ensures same { IfOk result (λ own. own ≡ clauses) }
+    ensures some { IfOk result (λ own. own.items ≢ []) }
+{
+    if clauses.is_empty() {
+        return Err(AllocError);
+    }
+    Ok(clauses)
+}
+
+/// Some clauses of congruence, of the terms and the pairs of which what was found is not a function
+/// of their keys; None only where it is congruent. Time and memory go with the terms and the pairs,
+/// not with their square.
 pub fn broken_congruences(
     alloc: Global,
     arena: &Arena,
@@ -69,6 +82,7 @@ pub fn broken_congruences(
         IsCongruent (vocabulary_at terms.now words.now) table) }
     ensures some { IfOk result (λ broken. IfSome broken (λ clauses. AreCongruences signature.now
         arena.now terms.now words.now (map (λ c. c.items) clauses.items))) }
+    ensures full { IfOk result (λ broken. IfSome broken (λ clauses. clauses.items ≢ [])) }
 {
     let source = Source { terms, found };
     let told = told_of(alloc, words)?;
@@ -84,5 +98,6 @@ pub fn broken_congruences(
         words,
     };
     let clauses = clauses_on(alloc, speech, rivals.as_slice(), pair_rivals.as_slice())?;
+    let clauses = some_of(clauses)?;
     Ok(Some(clauses))
 }
