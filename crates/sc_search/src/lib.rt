@@ -10,6 +10,7 @@
 //! - `texts`: the texts of facts.
 //! - `problem`: clauses for the solver.
 //! - `spares`: texts for classes that have none of the formula's.
+//! - `unnamed`: the classes of records that no term names.
 //! - `reading`: what was found, read from what the solver found.
 //! - `joining`: classes that nothing keeps apart, as one.
 //! - `round`: what one round of a search gives.
@@ -30,6 +31,7 @@ mod solving;
 mod spares;
 mod tabled;
 mod texts;
+mod unnamed;
 
 pub use search::find_table;
 pub use tabled::Tabled;

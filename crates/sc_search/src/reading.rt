@@ -2,6 +2,7 @@
 
 use crate::sides::Reader;
 use crate::spares::Spares;
+use crate::unnamed::with_unnamed;
 use indexmap::IndexSet;
 use sc_clauses::FactNode;
 use sc_columns::{Columns, range_at};
@@ -142,6 +143,8 @@ pub(crate) fn columns_of(
     classes: &[u32],
 ) -> Result<Columns, AllocError> {
     let flags = flags_of(alloc, reader, facts, first, mixture.values.as_slice())?;
+    let classes = with_unnamed(alloc, reader, classes)?;
+    let classes = classes.as_slice();
     let values = values_of(alloc, reader, mixture, classes, flags.raised.as_slice())?;
     let Flags {
         there,
