@@ -25,6 +25,9 @@ pub struct Activities {
     /// By the slots of the clauses.
     scores: Vec<u64>,
     step: u64,
+    /// While clauses are forgotten: the slots that those get which are kept. Before it is known, a
+    /// clause that is to be kept whatever its activity has its own.
+    moves: Vec<Option<usize>>,
 }
 
 impl Activities {
@@ -33,6 +36,7 @@ impl Activities {
         Ok(Activities {
             scores: vec![in alloc; 0; slots]?,
             step: FIRST_STEP,
+            moves: vec![in alloc; None; slots]?,
         })
     }
 
@@ -49,15 +53,35 @@ impl Activities {
     }
 
     /// Whether the clause of a slot, which has so many literals, is to be kept where half of them
-    /// are: one of few literals, or one whose activity is not below a bound.
+    /// are: one of few literals, one that is held, or one whose activity is not below a bound.
     pub fn keeps(&self, slot: usize, bound: u64, literals: usize) -> bool {
-        literals <= SHORT || self.score(slot) >= bound
+        literals <= SHORT || self.score(slot) >= bound || self.moved(slot).is_some()
+    }
+
+    /// Lets the clause of a slot be kept whatever its activity.
+    pub fn hold(&mut self, slot: usize) {
+        self.move_to(slot, slot);
+    }
+
+    /// The slot that the clause of a slot got, where it was kept.
+    pub fn moved(&self, slot: usize) -> Option<usize> {
+        if slot < self.moves.len() {
+            self.moves[slot]
+        } else {
+            None
+        }
+    }
+
+    /// Holds no clause any more.
+    pub fn release(&mut self) {
+        self.moves.fill(None);
     }
 
     /// Lets a slot have the activity of another, whose clause it gets.
     pub fn follow(&mut self, from: usize, to: usize) {
         let score = self.score(from);
         self.set(to, score);
+        self.move_to(from, to);
     }
 
     /// The middle one of the activities of so many slots.
@@ -82,6 +106,12 @@ impl Activities {
             count = count.saturating_add(usize::from(self.score(slot) < bound));
         }
         count
+    }
+
+    fn move_to(&mut self, from: usize, to: usize) {
+        if from < self.moves.len() {
+            self.moves[from] = Some(to);
+        }
     }
 
     fn score(&self, slot: usize) -> u64 {

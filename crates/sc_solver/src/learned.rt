@@ -8,6 +8,7 @@ use crate::activities::Activities;
 use crate::allowance::Allowance;
 use crate::clauses::Clauses;
 use crate::literal::PLit;
+use crate::reason::Reason;
 use std::alloc::{AllocError, Global};
 use std::marker::Model;
 use std::mem;
@@ -129,7 +130,35 @@ impl Learned {
         self.activities.bump(slot);
     }
 
-    /// Forgets about half of the clauses: those that had least part in late conflicts.
+    /// Lets the clause of a reason be kept when others are forgotten next.
+    pub fn hold(&mut self, reason: Reason)
+        ensures { self.new ≡ self.old }
+    {
+        if let Reason::Learned(slot) = reason {
+            self.activities.hold(slot);
+        }
+    }
+
+    /// The reason of the same clause after others were forgotten, as long as its slot is known.
+    pub fn moved(&self, reason: Reason) -> Reason {
+        match reason {
+            Reason::Learned(slot) => match self.activities.moved(slot) {
+                Some(slot) => Reason::Learned(slot),
+                None => Reason::Unknown,
+            },
+            _ => reason,
+        }
+    }
+
+    /// Holds no clause any more, and knows no earlier slots.
+    pub fn release(&mut self)
+        ensures { self.new ≡ self.old }
+    {
+        self.activities.release();
+    }
+
+    /// Forgets about half of the clauses: those that had least part in late conflicts and are not
+    /// held.
     pub fn reduce(&mut self)
         ensures fewer { All (Contains (learned_list self.old)) (learned_list self.new) }
         ensures width { self.new.width ≡ self.old.width }
@@ -152,7 +181,7 @@ fn keep_active(from: &Clauses, activities: &mut Activities, to: &mut Clauses)
     }
 }
 
-/// Copies the clause of a slot where its activity is not below a bound.
+/// Copies the clause of a slot where it is held or its activity is not below a bound.
 fn keep_clause(
     from: &Clauses,
     slot: usize,

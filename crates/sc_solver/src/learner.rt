@@ -14,6 +14,7 @@ ghost use Rattle.sc_solver.specs.Work.{rest};
 mod adding;
 mod backtracking;
 mod explaining;
+mod forgetting;
 mod propagating;
 mod scanning;
 
@@ -279,11 +280,18 @@ impl<T: Theory> Learner<T> {
         self.conclude(literal)
     }
 
-    /// Counts a conflict. A restart is due where there is no room to learn one clause more.
-    fn count(&self, restarts: &mut Restarts)
-        ensures { restarts.new ≡ restarts.old }
+    /// Counts a conflict, and forgets clauses where more were learned than are to be kept. A restart is
+    /// due where there is no room to learn one clause more even so.
+    fn count(&mut self, restarts: &mut Restarts)
+        ensures restarts { restarts.new ≡ restarts.old }
+        ensures kept { self.new ≡ record self.old {
+          learned = self.new.learned;
+          reasons = self.new.reasons;
+        } }
     {
         restarts.count();
+        let set = self.state.len();
+        self.reduce(set);
         if !self.learned.has_room() {
             restarts.hasten();
         }

@@ -9,7 +9,8 @@
 //!
 //! - `solver`: `Solver`, what callers see, and `Answer`.
 //! - `learner`: the steps of a search, with its modules `scanning` (what is met next), `explaining`
-//!   (what is learned from a conflict) and `backtracking` (what is taken back).
+//!   (what is learned from a conflict), `backtracking` (what is taken back) and `forgetting` (which
+//!   learned clauses are kept).
 //! - `reason`: the clause by which a literal was set.
 //! - `context`: the clauses, the theory and the trail in step.
 //! - `progress`: where a search stands.

@@ -183,6 +183,7 @@ impl Watches {
         requires within { All (IsWithin trail.now.vars) (learned_list learned.now) }
         ensures { self.new ≡ self.old }
     {
+        self.turn_back();
         self.detach_learned();
         for slot in 0..learned.len() {
             self.watch_latest(slot, trail, learned);
@@ -203,6 +204,16 @@ impl Watches {
         }
     }
 
+    /// Takes the literal that was taken in part from the beginning again.
+    fn turn_back(&mut self)
+        ensures { self.new ≡ self.old }
+    {
+        if self.at.is_some() {
+            self.at = None;
+            self.head = self.head.saturating_sub(1);
+        }
+    }
+
     /// Takes the nodes of the first slots out of their lists.
     fn detach_learned(&mut self)
         ensures { self.new ≡ self.old }
@@ -216,7 +227,6 @@ impl Watches {
     fn detach(&mut self, node: usize)
         ensures { self.new ≡ self.old }
     {
-        self.at = None;
         if node < self.watched.len() {
             let node = node as u32;
             if self.rings.is_linked(node) {

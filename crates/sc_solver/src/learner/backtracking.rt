@@ -125,6 +125,7 @@ impl<T: Theory> Learner<T> {
         ensures kept { self.new ≡ record self.old {
           state = self.new.state;
           learned = self.new.learned;
+          reasons = self.new.reasons;
         } }
         ensures few { length self.new.state.entries ≤ self.new.state.vars }
     {

@@ -1,9 +1,7 @@
-ghost use Rattle.std.specs.Prelude.{◌≡◌, ◌<◌, ◌+◌, ◌⊎◌, length, All, List, Bool, IsTrue, MatchOption, replicate, reverse, slice_get, slice_set, true, false, Some};
+ghost use Rattle.std.specs.Prelude.{◌≡◌, ◌<◌, ◌+◌, ◌⊎◌, length, List, Bool, IsTrue, MatchOption, replicate, reverse, slice_get, slice_set, true, false, Some};
 ghost use Rattle.std.specs.Bool.{OnTrue};
 ghost use Rattle.std.specs.Option.{IfSome};
 ghost use Rattle.sc_solver.specs.Assignment.{literal_value, value_at};
-ghost use Rattle.std.specs.List.{Contains};
-ghost use Rattle.sc_solver.specs.Learned.{learned_list};
 ghost use Rattle.sc_solver.specs.LearnerView.{IsExplained, IsMinimal, IsMinimizedAt, clause_by};
 ghost use Rattle.sc_solver.specs.Marks.{ForcesMarked, HasMarks, IsAsStrong, IsBacked, IsBackedMarked, IsMarkedBy, IsShownBy, collected};
 ghost use Rattle.sc_solver.specs.Preferences.{decayed, bumped_all};
@@ -177,19 +175,6 @@ impl<T: Theory> Learner<T> {
     {
         if let Reason::Learned(slot) = reason {
             self.learned.bump(slot);
-        }
-    }
-
-    /// Forgets about half of the clauses that were learned, where there are more than are to be kept
-    /// while so many variables are set. The others get other slots, and are watched by them.
-    pub fn reduce(&mut self, set: usize)
-        ensures kept { self.new ≡ record self.old { learned = self.new.learned } }
-        ensures fewer { All (Contains (learned_list self.old.learned)) (learned_list self.new.learned) }
-    {
-        if self.learned.is_crowded(set) {
-            self.learned.reduce();
-            self.watches
-                .watch_learned(self.state.trail(), &self.learned);
         }
     }
 

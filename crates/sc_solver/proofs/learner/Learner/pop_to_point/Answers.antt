@@ -1,10 +1,12 @@
-use Rattle.std.proofs.Common.{◌≡◌, ◌≤◌, ap, refl, sym, subst, ◌∙◌}
+use Rattle.std.proofs.Common.{◌≡◌, ◌≤◌, false, ap, refl, sym, subst, ◌∙◌, rules}
+use Rattle.sc_solver.specs.Assignment.{value_at}
 use Rattle.sc_solver.specs.Dropping.{before_decision}
 use Rattle.sc_solver.specs.LearnerView.{LearnerView}
 use Rattle.sc_solver.specs.Marks.{IsRefutedMarked}
 use Rattle.sc_solver.specs.ContextView.{Lawful, SameProblem}
 use Rattle.sc_solver.specs.Work.{pending}
 use Rattle.sc_solver.proofs.Droppings.{free_level_dropped}
+use Rattle.sc_solver.proofs.MarkedTrails.{refuted_unmarked}
 use Rattle.sc_solver.proofs.Problems.{SameProblem-sym, SameProblem-trans, ForcesMarked-after, same_parts}
 use Rattle.sc_solver.proofs.TakenBack.{point_taken_back, decision_taken_back, explained_refuted, no_more_below}
 use Rattle.sc_solver.proofs.learner.Learner.pop_to_point.Goals as goal
@@ -75,3 +77,22 @@ loop-entry-preserved-then-index g c =
           (explained_refuted (Lawful T.models T.meets first) first.vars more c.self.inside.marks.items second.entries c.in-Some.entry es c.in-Some.ensures.entries has forced refuted);
       no_more = rw c.if-pop_free_level.ensures.same (no_more_below first.vars first.entries second.entries c.in-Some.entry es c.in-Some.ensures.entries no_more);
     })
+
+pub loop-entry-preserved : goal.loop-entry-preserved
+loop-entry-preserved g c =
+    let T = g.T.Theory in
+    let first = c.args.self.now.state in
+    let second = c.self.inside.state in
+    let es = c.pop.new.self.entries in
+    let marks = c.self.inside.marks.items in
+    let before = subst (λ (v : LearnerView _ _). SameProblem T.capacity T.takes T.models first v.state) (sym c.self.view_is) c.loop-entry.invariant.problem in
+    let refuted = subst (λ (v : LearnerView _ _). IsRefutedMarked (Lawful T.models T.meets first) v.marks v.state.entries) (sym c.self.view_is) c.loop-entry.invariant.refuted in
+    let no_more = subst (λ (v : LearnerView _ _). pending first.vars v.state.entries ≤ pending first.vars first.entries) (sym c.self.view_is) c.loop-entry.invariant.no_more in
+    let unmarked : value_at marks c.in-Some.entry.literal.var ≡ false = search rules in
+    record {
+      problem = SameProblem-trans before c.pop.ensures.problem;
+      kept = ap (λ (v : LearnerView _ _). record v { state = c.pop.new.self; marks = marks; preferences = c.offer.new.self }) (c.self.view_is ∙ c.loop-entry.invariant.kept);
+      refuted = refuted_unmarked (Lawful T.models T.meets first) marks c.in-Some.entry es unmarked
+          (subst (IsRefutedMarked (Lawful T.models T.meets first) marks) c.in-Some.ensures.entries refuted);
+      no_more = no_more_below first.vars first.entries second.entries c.in-Some.entry es c.in-Some.ensures.entries no_more;
+    }
