@@ -4,7 +4,7 @@ ghost use Rattle.std.specs.Prelude.{IfOk};
 ghost use Rattle.sc_schema.specs.Proper.{IsProper};
 ghost use Rattle.sc_schema.specs.SchemaViews.{schema_of};
 
-use sc_data_read::{ReadErr, read_database};
+use sc_data_read::{ReadErr, read_database, reload_database};
 use sc_data_text::print_database;
 use sc_records::{Database, Limit};
 use sc_schema::Schema;
@@ -74,6 +74,36 @@ fn read(alloc: Global, s: &Schema, text: &[u8]) -> Result<Result<Database, ReadE
     Ok(read_database(alloc, text, s))
 }
 
+/// What is read of the text of a database that was kept.
+fn reload(alloc: Global, s: &Schema, text: &[u8]) -> Result<Result<Database, ReadErr>, Fail>
+    requires { IsProper (schema_of s.now) }
+{
+    if text.len() > MOST_BYTES {
+        return Err(Fail::new("too long"));
+    }
+    Ok(reload_database(alloc, text, s))
+}
+
+/// Whether it is read, and the database of it is printed so.
+fn is_reloaded(alloc: Global, s: &Schema, text: &[u8], printed: &[u8]) -> Result<bool, Fail>
+    requires { IsProper (schema_of s.now) }
+{
+    match reload(alloc, s, text)? {
+        Ok(database) => Ok(print_database(alloc, &database, s)?.as_slice() == printed),
+        Err(_) => Ok(false),
+    }
+}
+
+/// Whether it is refused so.
+fn is_kept_out(alloc: Global, s: &Schema, text: &[u8], err: ReadErr) -> Result<bool, Fail>
+    requires { IsProper (schema_of s.now) }
+{
+    match reload(alloc, s, text)? {
+        Ok(_) => Ok(false),
+        Err(found) => Ok(found == err),
+    }
+}
+
 /// Whether the text is read, and the database of it is printed so.
 fn is_printed(alloc: Global, s: &Schema, text: &[u8], printed: &[u8]) -> Result<bool, Fail>
     requires { IsProper (schema_of s.now) }
@@ -94,13 +124,13 @@ fn is_refused(alloc: Global, s: &Schema, text: &[u8], err: ReadErr) -> Result<bo
     }
 }
 
-/// How many of the texts are refused so, up to the first that is not.
+/// How many of the texts are refused so, kept or not, up to the first that is not.
 fn refused(alloc: Global, s: &Schema, cases: &[(&[u8], ReadErr)]) -> Result<usize, Fail>
     requires { IsProper (schema_of s.now) }
 {
     let mut count: usize = 0;
     for (text, err) in cases {
-        if !is_refused(alloc, s, text, *err)? {
+        if !is_refused(alloc, s, text, *err)? || !is_kept_out(alloc, s, text, *err)? {
             return Ok(count);
         }
         count = count.saturating_add(1);
@@ -108,13 +138,13 @@ fn refused(alloc: Global, s: &Schema, cases: &[(&[u8], ReadErr)]) -> Result<usiz
     Ok(count)
 }
 
-/// How many of the texts are read, and their databases are printed so.
+/// How many of the texts are read, kept or not, and their databases are printed so.
 fn printed(alloc: Global, s: &Schema, cases: &[(&[u8], &[u8])]) -> Result<usize, Fail>
     requires { IsProper (schema_of s.now) }
 {
     let mut count: usize = 0;
     for (text, as_printed) in cases {
-        if !is_printed(alloc, s, text, as_printed)? {
+        if !is_printed(alloc, s, text, as_printed)? || !is_reloaded(alloc, s, text, as_printed)? {
             return Ok(count);
         }
         count = count.saturating_add(1);
@@ -179,16 +209,16 @@ fn what_is_wrong_first(rt: HostRuntime) -> Result<(), Fail> {
     Ok(())
 }
 
-/// A table with so many teams, and so many before it.
+/// So many teams, as a database of them is printed.
 fn teams(alloc: Global, count: u64) -> Result<Vec<u8>, Fail> {
     let mut text = Vec::new(alloc);
-    text.extend_from_slice(b"Team @30000 {\n")?;
+    text.extend_from_slice(b"User @1 {\n}\nTeam @30000 {\n")?;
     for id in 0..count {
-        text.extend_from_slice(b"@")?;
+        text.extend_from_slice(b"  @")?;
         text.extend_from_slice((id + 1).to_string(alloc)?.as_bytes())?;
-        text.extend_from_slice(b" {lead: none, members: []}\n")?;
+        text.extend_from_slice(b" {members: [], lead: none}\n")?;
     }
-    text.extend_from_slice(b"}")?;
+    text.extend_from_slice(b"}\n")?;
     Ok(text)
 }
 
@@ -203,6 +233,7 @@ fn twenty_thousand_records(rt: HostRuntime) -> Result<(), Fail> {
     assert!(rt; read(alloc, &s, most.as_slice())?.is_ok());
     let more = teams(alloc, 20_001)?;
     assert!(rt; is_refused(alloc, &s, more.as_slice(), full)?);
+    assert!(rt; is_reloaded(alloc, &s, more.as_slice(), more.as_slice())?);
     Ok(())
 }
 

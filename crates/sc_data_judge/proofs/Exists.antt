@@ -12,6 +12,7 @@ use Rattle.sc_data_tree.specs.declared.tables.TableLit.{TableLit}
 use Rattle.sc_data_judge.specs.declared.fault.Fault.{Fault}
 use Rattle.sc_data_judge.specs.declared.fault.Refusal.{Refusal}
 use Rattle.sc_data_judge.specs.declared.fault.Refusal.TheVariants as refusal
+use Rattle.sc_data_judge.specs.declared.limits.Limits.{Limits}
 use Rattle.sc_data_judge.specs.First.{first_behind, pushed}
 use Rattle.sc_data_judge.specs.Faults.{rule_fault, table_fault}
 use Rattle.sc_data_judge.specs.Judged.{IsGiven, IsRefusedFor}
@@ -75,16 +76,16 @@ module _ (models : List ModelInfo) (ts : List TableLit) (sound : first_behind (t
         (record { model = refl; next = refl; records = o.moved; rising = IsStrictlyIncreasing-from_sorted (map id o.records) (sorted (map id o.records) o.rises) }, rest.1),
       )
 
-module _ (s : Schema) (ts : List TableLit) where
+module _ (limits : Limits) (s : Schema) (ts : List TableLit) where
   abbrev pub Judgement : Type 0
-  Judgement = ((d : Database) × IsGiven s ts d) ⊎ ((r : Refusal) × (r ≢ refusal.OutOfMemory) × IsRefusedFor s ts r)
+  Judgement = ((d : Database) × IsGiven limits s ts d) ⊎ ((r : Refusal) × (r ≢ refusal.OutOfMemory) × IsRefusedFor limits s ts r)
 
-  within : (d : Database) (e : Option Limit) → rule_fault s ts ≡ None → AreHeld ts s.models d → lost s d ts ≡ None → excess d ≡ e → Judgement
+  within : (d : Database) (e : Option Limit) → rule_fault s ts ≡ None → AreHeld ts s.models d → lost s d ts ≡ None → excess limits d ≡ e → Judgement
   within d None sound held found is = inl (d, record { reads = record { writes = record { sound = sound; held = held }; found = found }; within = is })
   within d (Some what) sound held found is = inr (refusal.Full what, (λ e. cc), (d, record { writes = record { sound = sound; held = held }; found = found }, is))
 
   named : (d : Database) (o : Option ℕ) → rule_fault s ts ≡ None → AreHeld ts s.models d → lost s d ts ≡ o → Judgement
-  named d None sound held is = within d (excess d) sound held is refl
+  named d None sound held is = within d (excess limits d) sound held is refl
   named d (Some at) sound held is = inr (refusal.Dangling at, (λ e. cc), (d, record { sound = sound; held = held }, is))
 
   broken : (o : Option Fault) → rule_fault s ts ≡ o → Judgement

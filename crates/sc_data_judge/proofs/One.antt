@@ -13,6 +13,7 @@ use Rattle.sc_data.specs.Database.{Record, Table, Database}
 use Rattle.sc_data_tree.specs.declared.tables.TableLit.{TableLit}
 use Rattle.sc_data_judge.specs.declared.fault.Refusal.{Refusal}
 use Rattle.sc_data_judge.specs.declared.fault.Refusal.TheVariants as refusal
+use Rattle.sc_data_judge.specs.declared.limits.Limits.{Limits}
 use Rattle.sc_data_judge.specs.Limits.{excess}
 use Rattle.sc_data_judge.specs.References.{lost}
 use Rattle.sc_data_judge.specs.Meaning.{Holds, AreHeld, records_for}
@@ -104,39 +105,39 @@ one-held ts (m ∷ ms) [] e h k = absurd h
 one-held ts (m ∷ ms) (t ∷ d) [] h k = absurd k
 one-held ts (m ∷ ms) (t ∷ d) (u ∷ e) h k = ap (λ x. x ∷ d) (one-table ts m t u h.0 k.0) ∙ ap (λ xs. u ∷ xs) (one-held ts ms d e h.1 k.1)
 
-module _ (s : Schema) (ts : List TableLit) where
-  pub one-database : (d e : Database) → Writes s ts d → Writes s ts e → d ≡ e
-  one-database d e w v = one-held ts s.models d e w.held v.held
+pub one-database : (s : Schema) (ts : List TableLit) (d e : Database) → Writes s ts d → Writes s ts e → d ≡ e
+one-database s ts d e w v = one-held ts s.models d e w.held v.held
 
-  no-some : {A : Type 0} {o : Option A} {x : A} → o ≡ None → o ≡ Some x → ⊥
-  no-some {A} {o} {x} none some = let e : None ≡ Some x = sym none ∙ some in cc
+no-some : {A : Type 0} {o : Option A} {x : A} → o ≡ None → o ≡ Some x → ⊥
+no-some {A} {o} {x} none some = let e : None ≡ Some x = sym none ∙ some in cc
 
-  some-same : {A : Type 0} {o : Option A} {x y : A} → o ≡ Some x → o ≡ Some y → x ≡ y
-  some-same {A} {o} {x} {y} e f = let g : Some x ≡ Some y = sym e ∙ f in cc
+some-same : {A : Type 0} {o : Option A} {x y : A} → o ≡ Some x → o ≡ Some y → x ≡ y
+some-same {A} {o} {x} {y} e f = let g : Some x ≡ Some y = sym e ∙ f in cc
 
-  pub given-not-refused : (d : Database) (r : Refusal) → (r ≡ refusal.OutOfMemory → ⊥) → IsGiven s ts d → IsRefusedFor s ts r → ⊥
+module _ (limits : Limits) (s : Schema) (ts : List TableLit) where
+  pub given-not-refused : (d : Database) (r : Refusal) → (r ≡ refusal.OutOfMemory → ⊥) → IsGiven limits s ts d → IsRefusedFor limits s ts r → ⊥
   given-not-refused d (refusal.Broken f) memory g r = no-some g.reads.writes.sound r
   given-not-refused d (refusal.Dangling at) memory g (e, w, r) =
-      no-some (subst (λ x. lost s x ts ≡ None) (one-database d e g.reads.writes w) g.reads.found) r
+      no-some (subst (λ x. lost s x ts ≡ None) (one-database s ts d e g.reads.writes w) g.reads.found) r
   given-not-refused d (refusal.Full what) memory g (e, w, r) =
-      no-some (subst (λ x. excess x ≡ None) (one-database d e g.reads.writes w.writes) g.within) r
+      no-some (subst (λ x. excess limits x ≡ None) (one-database s ts d e g.reads.writes w.writes) g.within) r
   given-not-refused d refusal.OutOfMemory memory g r = memory refl
 
-  pub one-refusal : (r q : Refusal) → (r ≡ refusal.OutOfMemory → ⊥) → (q ≡ refusal.OutOfMemory → ⊥) → IsRefusedFor s ts r → IsRefusedFor s ts q → r ≡ q
+  pub one-refusal : (r q : Refusal) → (r ≡ refusal.OutOfMemory → ⊥) → (q ≡ refusal.OutOfMemory → ⊥) → IsRefusedFor limits s ts r → IsRefusedFor limits s ts q → r ≡ q
   one-refusal (refusal.Broken f) (refusal.Broken g) mr mq r q = ap refusal.Broken (some-same r q)
   one-refusal (refusal.Broken f) (refusal.Dangling at) mr mq r (e, w, q) = absurd (no-some w.sound r)
   one-refusal (refusal.Broken f) (refusal.Full what) mr mq r (e, w, q) = absurd (no-some w.writes.sound r)
   one-refusal (refusal.Broken f) refusal.OutOfMemory mr mq r q = absurd (mq refl)
   one-refusal (refusal.Dangling at) (refusal.Broken g) mr mq (d, v, r) q = absurd (no-some v.sound q)
   one-refusal (refusal.Dangling at) (refusal.Dangling by) mr mq (d, v, r) (e, w, q) =
-      ap refusal.Dangling (some-same (subst (λ x. lost s x ts ≡ Some at) (one-database d e v w) r) q)
+      ap refusal.Dangling (some-same (subst (λ x. lost s x ts ≡ Some at) (one-database s ts d e v w) r) q)
   one-refusal (refusal.Dangling at) (refusal.Full what) mr mq (d, v, r) (e, w, q) =
-      absurd (no-some w.found (subst (λ x. lost s x ts ≡ Some at) (one-database d e v w.writes) r))
+      absurd (no-some w.found (subst (λ x. lost s x ts ≡ Some at) (one-database s ts d e v w.writes) r))
   one-refusal (refusal.Dangling at) refusal.OutOfMemory mr mq r q = absurd (mq refl)
   one-refusal (refusal.Full what) (refusal.Broken g) mr mq (d, v, r) q = absurd (no-some v.writes.sound q)
   one-refusal (refusal.Full what) (refusal.Dangling by) mr mq (d, v, r) (e, w, q) =
-      absurd (no-some v.found (subst (λ x. lost s x ts ≡ Some by) (one-database e d w v.writes) q))
+      absurd (no-some v.found (subst (λ x. lost s x ts ≡ Some by) (one-database s ts e d w v.writes) q))
   one-refusal (refusal.Full what) (refusal.Full other) mr mq (d, v, r) (e, w, q) =
-      ap refusal.Full (some-same (subst (λ x. excess x ≡ Some what) (one-database d e v.writes w.writes) r) q)
+      ap refusal.Full (some-same (subst (λ x. excess limits x ≡ Some what) (one-database s ts d e v.writes w.writes) r) q)
   one-refusal (refusal.Full what) refusal.OutOfMemory mr mq r q = absurd (mq refl)
   one-refusal refusal.OutOfMemory q mr mq r o = absurd (mr refl)

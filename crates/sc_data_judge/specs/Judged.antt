@@ -5,6 +5,7 @@ use Rattle.sc_schema.specs.Schema.{Schema}
 use Rattle.sc_data.specs.Database.{Database}
 use Rattle.sc_data_judge.specs.declared.fault.Refusal.{Refusal}
 use Rattle.sc_data_judge.specs.declared.fault.Refusal.TheVariants as refusal
+use Rattle.sc_data_judge.specs.declared.limits.Limits.{Limits}
 use Rattle.sc_data_judge.specs.Faults.{rule_fault}
 use Rattle.sc_data_judge.specs.Limits.{excess}
 use Rattle.sc_data_judge.specs.Meaning.{AreHeld}
@@ -21,14 +22,15 @@ module _ (s : Schema) (ts : List TableLit) where
     pub writes : Writes d
     pub found : lost s d ts ≡ None
 
-  -- and the database keeps within the limits
+module _ (limits : Limits) (s : Schema) (ts : List TableLit) where
+  -- and the database keeps within the limits, where they are asked
   pub record IsGiven (d : Database) : Type 0 where
-    pub reads : Reads d
-    pub within : excess d ≡ None
+    pub reads : Reads s ts d
+    pub within : excess limits d ≡ None
 
-  -- What is wrong first: a part that breaks a rule, in reading order; then an id that names no record; then a limit.
+  -- What is wrong first: a part that breaks a rule, in reading order; then an id that names no record; then a limit, where it is asked.
   abbrev pub IsRefusedFor : Refusal → Type 0
   IsRefusedFor (refusal.Broken f) = rule_fault s ts ≡ Some f
-  IsRefusedFor (refusal.Dangling at) = (d : Database) × Writes d × (lost s d ts ≡ Some at)
-  IsRefusedFor (refusal.Full what) = (d : Database) × Reads d × (excess d ≡ Some what)
+  IsRefusedFor (refusal.Dangling at) = (d : Database) × Writes s ts d × (lost s d ts ≡ Some at)
+  IsRefusedFor (refusal.Full what) = (d : Database) × Reads s ts d × (excess limits d ≡ Some what)
   IsRefusedFor refusal.OutOfMemory = Unit {0}

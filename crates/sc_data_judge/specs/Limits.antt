@@ -4,9 +4,12 @@ use Rattle.sc_data.specs.Database.{Database}
 use Rattle.sc_records.specs.Room.{most_records, most_weight, record_count, total_weight}
 use Rattle.sc_records.specs.declared.data_err.Limit.{Limit}
 use Rattle.sc_records.specs.declared.data_err.Limit.TheVariants as limit
+use Rattle.sc_data_judge.specs.declared.limits.Limits.{Limits}
+use Rattle.sc_data_judge.specs.declared.limits.Limits.TheVariants.{Asked, Waived}
 
--- of what it holds too much: first of records, then of weight
-abbrev pub excess : Database → Option Limit
-excess d =
+-- Of what it holds too much: first of records, then of weight. Where the limits are waived, it is of nothing.
+abbrev pub excess : Limits → Database → Option Limit
+excess Asked d =
     if nat_lt most_records (record_count d) then Some limit.Records
     else (if nat_lt most_weight (total_weight d) then Some limit.Weight else None)
+excess Waived d = None

@@ -5,6 +5,7 @@ ghost use Rattle.sc_data.specs.Database.{Database};
 ghost use Rattle.sc_data_judge.specs.Judged.{IsGiven, IsRefusedFor, Writes};
 ghost use Rattle.sc_data_judge.specs.Worked.{WorkedData};
 ghost use Rattle.sc_data_judge.specs.declared.fault.Refusal.{Refusal};
+ghost use Rattle.sc_data_judge.specs.declared.limits.Limits.{Limits};
 ghost use Rattle.sc_data_tree.specs.declared.tables.TableLit.{TableLit};
 ghost use Rattle.sc_schema.specs.Schema.{Schema};
 
@@ -14,16 +15,16 @@ pub fn worked_data()
 {}
 
 /// Trees write at most one database over a schema. They are given or refused, for one cause, and
-/// never both.
+/// never both, whether or not the limits are asked.
 pub fn one_judgement()
-    ensures some { (s : Schema) (ts : List TableLit) →
-        ((d : Database) × IsGiven s ts d)
-        ⊎ ((r : Refusal) × (r ≢ Refusal.OutOfMemory) × IsRefusedFor s ts r) }
+    ensures some { (l : Limits) (s : Schema) (ts : List TableLit) →
+        ((d : Database) × IsGiven l s ts d)
+        ⊎ ((r : Refusal) × (r ≢ Refusal.OutOfMemory) × IsRefusedFor l s ts r) }
     ensures database { (s : Schema) (ts : List TableLit) (d e : Database) →
         Writes s ts d → Writes s ts e → d ≡ e }
-    ensures given { (s : Schema) (ts : List TableLit) (d : Database) (r : Refusal) →
-        r ≢ Refusal.OutOfMemory → IsGiven s ts d → ¬ (IsRefusedFor s ts r) }
-    ensures refusal { (s : Schema) (ts : List TableLit) (r q : Refusal) →
+    ensures given { (l : Limits) (s : Schema) (ts : List TableLit) (d : Database) (r : Refusal) →
+        r ≢ Refusal.OutOfMemory → IsGiven l s ts d → ¬ (IsRefusedFor l s ts r) }
+    ensures refusal { (l : Limits) (s : Schema) (ts : List TableLit) (r q : Refusal) →
         r ≢ Refusal.OutOfMemory → q ≢ Refusal.OutOfMemory →
-        IsRefusedFor s ts r → IsRefusedFor s ts q → r ≡ q }
+        IsRefusedFor l s ts r → IsRefusedFor l s ts q → r ≡ q }
 {}

@@ -9,7 +9,7 @@
 //! | `faults` | the first part in reading order that breaks a rule |
 //! | `rows`, `tables` | records and tables of what is written |
 //! | `references` | the first id in a value that names no record |
-//! | `limits` | how much a database holds |
+//! | `limits` | how much a database holds; `Limits`, whether that is asked |
 //! | `judging` | `judge` |
 //! | `named` | `value_from` and `row_from`, the values and rows that literals name |
 //! | `lit_err` | `LitErr`, why they name none |
@@ -33,5 +33,6 @@ mod tables;
 pub use fault::{Fault, Refusal};
 pub use judging::judge;
 pub use laws::{one_judgement, worked_data};
+pub use limits::Limits;
 pub use lit_err::LitErr;
 pub use named::{row_from, value_from};

@@ -1,6 +1,6 @@
 //! How much tables hold.
 
-ghost use Rattle.std.specs.Prelude.{◌≡◌, ◌+◌, ◌<◌, map, IfNone, MatchOption, OnSome};
+ghost use Rattle.std.specs.Prelude.{◌≡◌, ◌+◌, ◌<◌, map, MatchOption};
 ghost use Rattle.std.specs.List.{sum_by};
 ghost use Rattle.sc_data.specs.Values as plain;
 ghost use Rattle.sc_data_judge.specs.Limits as spec;
@@ -9,6 +9,15 @@ ghost use Rattle.sc_records.specs.Room.{record_count, record_weight, total_weigh
 ghost use Rattle.sc_records.specs.Views.{record_data, slot_data, table_data, value_data};
 
 use sc_records::{Limit, Record, Slot, Table, Value};
+
+/// Whether a database that is read has to keep within the limits.
+#[derive(Clone, Copy, Debug, PartialEq, Eq)]
+pub enum Limits {
+    /// As one that is given to be used.
+    Asked,
+    /// One that was kept, which a change of the schema may have left above them.
+    Waived,
+}
 
 /// How many records a database holds at most.
 const MOST_RECORDS: usize = 20_000;
@@ -95,31 +104,61 @@ fn is_ranged(v: &Value)
     }
 }
 
+/// So is each value of slots.
+fn slots_are_ranged(slots: &[Slot])
+    ensures { HaveRanges (map slot_data slots.now) }
+{
+    match slots {
+        [] => {}
+        [slot, slots @ ..] => {
+            is_ranged(&slot.value);
+            slots_are_ranged(slots);
+        }
+    }
+}
+
+/// Each of records.
+fn records_are_ranged(records: &[Record])
+    ensures { RecordsHaveRanges (map record_data records.now) }
+{
+    for row in records {
+        slots_are_ranged(row.slots.as_slice());
+    }
+}
+
+/// Each of tables.
+pub(crate) fn are_ranged(tables: &[Table])
+    ensures { IsRanged (map table_data tables.now) }
+{
+    match tables {
+        [] => {}
+        [table, tables @ ..] => {
+            records_are_ranged(table.records.as_slice());
+            are_ranged(tables);
+        }
+    }
+}
+
 /// What is left of a number without the weights of slots, or None where they weigh more.
 fn without_slots(left: u64, slots: &[Slot]) -> Option<u64>
-    ensures left { MatchOption result
+    ensures { MatchOption result
         (left < sum_by (λ slot. weight_of slot.value) (map slot_data slots.now)) (λ rest. rest
         + sum_by (λ slot. weight_of slot.value) (map slot_data slots.now) ≡ left) }
-    ensures ranged { OnSome result (HaveRanges (map slot_data slots.now)) }
 {
     match slots {
         [] => Some(left),
-        [slot, slots @ ..] => {
-            is_ranged(&slot.value);
-            match without_value(left, &slot.value) {
-                Some(left) => without_slots(left, slots),
-                None => None,
-            }
-        }
+        [slot, slots @ ..] => match without_value(left, &slot.value) {
+            Some(left) => without_slots(left, slots),
+            None => None,
+        },
     }
 }
 
 /// What is left of a number without the weights of records, or None where they weigh more.
 fn without_records(left: u64, records: &[Record]) -> Option<u64>
-    ensures left { MatchOption result
+    ensures { MatchOption result
         (left < sum_by record_weight (map record_data records.now)) (λ rest. rest
         + sum_by record_weight (map record_data records.now) ≡ left) }
-    ensures ranged { OnSome result (RecordsHaveRanges (map record_data records.now)) }
 {
     let mut left = left;
     for row in records {
@@ -133,9 +172,8 @@ fn without_records(left: u64, records: &[Record]) -> Option<u64>
 
 /// What is left of a number without the weights of tables, or None where they weigh more.
 fn without_tables(left: u64, tables: &[Table]) -> Option<u64>
-    ensures left { MatchOption result (left < total_weight (map table_data tables.now)) (λ rest. rest
+    ensures { MatchOption result (left < total_weight (map table_data tables.now)) (λ rest. rest
         + total_weight (map table_data tables.now) ≡ left) }
-    ensures ranged { OnSome result (IsRanged (map table_data tables.now)) }
 {
     match tables {
         [] => Some(left),
@@ -147,9 +185,8 @@ fn without_tables(left: u64, tables: &[Table]) -> Option<u64>
 }
 
 /// Of what tables hold too much: first of records, then of weight.
-pub(crate) fn excess(tables: &[Table]) -> Option<Limit>
-    ensures excess { result ≡ spec.excess (map table_data tables.now) }
-    ensures ranged { IfNone result (IsRanged (map table_data tables.now)) }
+fn too_much(tables: &[Table]) -> Option<Limit>
+    ensures { result ≡ spec.excess Limits.Asked (map table_data tables.now) }
 {
     match without_rows(MOST_RECORDS, tables) {
         Some(_) => match without_tables(MOST_WEIGHT, tables) {
@@ -157,5 +194,15 @@ pub(crate) fn excess(tables: &[Table]) -> Option<Limit>
             None => Some(Limit::Weight),
         },
         None => Some(Limit::Records),
+    }
+}
+
+/// The same, where the limits are asked.
+pub(crate) fn excess(limits: Limits, tables: &[Table]) -> Option<Limit>
+    ensures { result ≡ spec.excess limits (map table_data tables.now) }
+{
+    match limits {
+        Limits::Asked => too_much(tables),
+        Limits::Waived => None,
     }
 }

@@ -2,6 +2,7 @@
 use Rattle.std.proofs.Common.{◌≡◌, ◌≢◌, ◌∙◌, sym, ◌⊎◌, inl, inr, ℕ, List, refl, ap, subst}
 use Rattle.sc_schema.specs.Schema.{Schema}
 use Rattle.sc_data.specs.Database.{Database}
+use Rattle.sc_records.specs.declared.data_err.Limit.{Limit}
 use Rattle.sc_data_tree.specs.declared.tables.TableLit.{TableLit}
 use Rattle.sc_data_tree.specs.Texts.{IsDataText}
 use Rattle.sc_data_tree.specs.Grammar.{data_form}
@@ -12,6 +13,8 @@ use Rattle.sc_data_judge.specs.Judged as judge
 use Rattle.sc_data_judge.specs.declared.fault.Fault.TheVariants as fault
 use Rattle.sc_data_judge.specs.declared.fault.Refusal.{Refusal}
 use Rattle.sc_data_judge.specs.declared.fault.Refusal.TheVariants as refusal
+use Rattle.sc_data_judge.specs.declared.limits.Limits.{Limits}
+use Rattle.sc_data_judge.specs.declared.limits.Limits.TheVariants.{Asked, Waived}
 use Rattle.sc_data_judge.proofs.Exists.{Judgement, some-judgement}
 use Rattle.sc_data_judge.proofs.One.{one-database, given-not-refused, one-refusal}
 use Rattle.sc_texts.specs.declared.syntax_err.SyntaxErr.{SyntaxErr}
@@ -30,17 +33,17 @@ record OfParser (text : List ℕ) (e : ReadErr) : Type 0 where
   is : e ≡ err.Syntax syntax_err
   refused : parse.IsRefusedAs data_form text syntax_err
 
-record OfTables (s : Schema) (text : List ℕ) (e : ReadErr) : Type 0 where
+record OfTables (limits : Limits) (s : Schema) (text : List ℕ) (e : ReadErr) : Type 0 where
   reason : Refusal
   is : e ≡ of_refusal reason
   known : reason ≢ refusal.OutOfMemory
-  refused : AreRefusedFor s text reason
+  refused : AreRefusedFor limits s text reason
 
-module _ (s : Schema) (text : List ℕ) where
+module _ (limits : Limits) (s : Schema) (text : List ℕ) where
   abbrev Origin : ReadErr → Type 0
-  Origin e = OfParser text e ⊎ OfTables s text e
+  Origin e = OfParser text e ⊎ OfTables limits s text e
 
-  origin : (e : ReadErr) → IsRefusedAs s text e → Origin e
+  origin : (e : ReadErr) → IsRefusedAs limits s text e → Origin e
   origin (err.Syntax e) r = inl (record { syntax_err = e; is = refl; refused = r })
   origin (err.Unknown at) r = inr (record { reason = refusal.Broken (fault.Unknown at); is = refl; known = λ e. cc; refused = r })
   origin (err.Absent at) r = inr (record { reason = refusal.Broken (fault.Absent at); is = refl; known = λ e. cc; refused = r })
@@ -51,19 +54,19 @@ module _ (s : Schema) (text : List ℕ) where
   origin (err.Full what) r = inr (record { reason = refusal.Full what; is = refl; known = λ e. cc; refused = r })
   origin err.OutOfMemory r = absurd r
 
-  pub one-read : (d e : Database) → IsRead s text d → IsRead s text e → d ≡ e
+  pub one-read : (d e : Database) → IsRead limits s text d → IsRead limits s text e → d ≡ e
   one-read d e (ts, t, g) (us, u, h) =
       let same : ts ≡ us = texts.one text ts us t u in
-      one-database s us d e (subst (λ z. judge.IsGiven s z d) same g).reads.writes h.reads.writes
+      one-database s us d e (subst (λ z. judge.IsGiven limits s z d) same g).reads.writes h.reads.writes
 
-  not-refused : (d : Database) (e : ReadErr) → IsRead s text d → Origin e → ⊥
+  not-refused : (d : Database) (e : ReadErr) → IsRead limits s text d → Origin e → ⊥
   not-refused d e (ts, t, g) (inl o) = texts.tree text ts o.syntax_err t o.refused
   not-refused d e (ts, t, g) (inr o) =
       let (us, u, r) = o.refused in
       let same : ts ≡ us = texts.one text ts us t u in
-      given-not-refused s us d o.reason o.known (subst (λ z. judge.IsGiven s z d) same g) r
+      given-not-refused limits s us d o.reason o.known (subst (λ z. judge.IsGiven limits s z d) same g) r
 
-  pub read-not-refused : (d : Database) (e : ReadErr) → IsRead s text d → IsRefusedAs s text e → ⊥
+  pub read-not-refused : (d : Database) (e : ReadErr) → IsRead limits s text d → IsRefusedAs limits s text e → ⊥
   read-not-refused d e is r = not-refused d e is (origin e r)
 
   same-refusal : (e f : ReadErr) → Origin e → Origin f → e ≡ f
@@ -74,14 +77,14 @@ module _ (s : Schema) (text : List ℕ) where
       let (ts, t, r) = o.refused in
       let (us, u, q) = p.refused in
       let same : ts ≡ us = texts.one text ts us t u in
-      o.is ∙ ap of_refusal (one-refusal s us o.reason p.reason o.known p.known (subst (λ z. judge.IsRefusedFor s z o.reason) same r) q) ∙ sym p.is
+      o.is ∙ ap of_refusal (one-refusal limits s us o.reason p.reason o.known p.known (subst (λ z. judge.IsRefusedFor limits s z o.reason) same r) q) ∙ sym p.is
 
-  pub one-reason : (e f : ReadErr) → IsRefusedAs s text e → IsRefusedAs s text f → e ≡ f
+  pub one-reason : (e f : ReadErr) → IsRefusedAs limits s text e → IsRefusedAs limits s text f → e ≡ f
   one-reason e f r q = same-refusal e f (origin e r) (origin f q)
 
   -- ---- what the parts answer
 
-  named-syntax : (e : SyntaxErr) → (e ≢ syntax.OutOfMemory → parse.IsRefusedAs data_form text e) → of_syntax e ≢ err.OutOfMemory → IsRefusedAs s text (of_syntax e)
+  named-syntax : (e : SyntaxErr) → (e ≢ syntax.OutOfMemory → parse.IsRefusedAs data_form text e) → of_syntax e ≢ err.OutOfMemory → IsRefusedAs limits s text (of_syntax e)
   named-syntax (syntax.NotText at) r some = r (λ e. cc)
   named-syntax (syntax.BadByte at) r some = r (λ e. cc)
   named-syntax (syntax.BadNumber at) r some = r (λ e. cc)
@@ -93,10 +96,10 @@ module _ (s : Schema) (text : List ℕ) where
   named-syntax syntax.OutOfMemory r some = absurd (some refl)
 
   pub of-parser : (e : SyntaxErr) (answer : ReadErr) → (e ≢ syntax.OutOfMemory → parse.IsRefusedAs data_form text e) → answer ≡ of_syntax e → answer ≢ err.OutOfMemory
-      → IsRefusedAs s text answer
-  of-parser e answer r is some = subst (IsRefusedAs s text) (sym is) (named-syntax e r (λ same. some (is ∙ same)))
+      → IsRefusedAs limits s text answer
+  of-parser e answer r is some = subst (IsRefusedAs limits s text) (sym is) (named-syntax e r (λ same. some (is ∙ same)))
 
-  named-refusal : (r : Refusal) → AreRefusedFor s text r → of_refusal r ≢ err.OutOfMemory → IsRefusedAs s text (of_refusal r)
+  named-refusal : (r : Refusal) → AreRefusedFor limits s text r → of_refusal r ≢ err.OutOfMemory → IsRefusedAs limits s text (of_refusal r)
   named-refusal (refusal.Broken (fault.Unknown at)) r some = r
   named-refusal (refusal.Broken (fault.Absent at)) r some = r
   named-refusal (refusal.Broken (fault.Twice at)) r some = r
@@ -106,12 +109,12 @@ module _ (s : Schema) (text : List ℕ) where
   named-refusal (refusal.Full what) r some = r
   named-refusal refusal.OutOfMemory r some = absurd (some refl)
 
-  pub of-tables : (r : Refusal) (answer : ReadErr) → AreRefusedFor s text r → answer ≡ of_refusal r → answer ≢ err.OutOfMemory → IsRefusedAs s text answer
-  of-tables r answer refused is some = subst (IsRefusedAs s text) (sym is) (named-refusal r refused (λ same. some (is ∙ same)))
+  pub of-tables : (r : Refusal) (answer : ReadErr) → AreRefusedFor limits s text r → answer ≡ of_refusal r → answer ≢ err.OutOfMemory → IsRefusedAs limits s text answer
+  of-tables r answer refused is some = subst (IsRefusedAs limits s text) (sym is) (named-refusal r refused (λ same. some (is ∙ same)))
 
   -- ---- one of them
 
-  judged : (ts : List TableLit) → IsDataText text ts → Judgement s ts → ((d : Database) × IsRead s text d) ⊎ ((e : ReadErr) × IsRefusedAs s text e)
+  judged : (ts : List TableLit) → IsDataText text ts → Judgement limits s ts → ((d : Database) × IsRead limits s text d) ⊎ ((e : ReadErr) × IsRefusedAs limits s text e)
   judged ts t (inl (d, g)) = inl (d, (ts, t, g))
   judged ts t (inr (r, known, refused)) = inr (of_refusal r, named-refusal r (ts, t, refused) (λ e. known (is-memory r e)))
     where
@@ -126,9 +129,21 @@ module _ (s : Schema) (text : List ℕ) where
       is-memory refusal.OutOfMemory e = refl
 
   parsed : ((x : List TableLit) × IsDataText text x) ⊎ ((e : SyntaxErr) × parse.IsRefusedAs data_form text e)
-      → ((d : Database) × IsRead s text d) ⊎ ((e : ReadErr) × IsRefusedAs s text e)
-  parsed (inl (ts, t)) = judged ts t (some-judgement s ts)
+      → ((d : Database) × IsRead limits s text d) ⊎ ((e : ReadErr) × IsRefusedAs limits s text e)
+  parsed (inl (ts, t)) = judged ts t (some-judgement limits s ts)
   parsed (inr (e, r)) = inr (err.Syntax e, r)
 
-  pub some-reading : ((d : Database) × IsRead s text d) ⊎ ((e : ReadErr) × IsRefusedAs s text e)
+  pub some-reading : ((d : Database) × IsRead limits s text d) ⊎ ((e : ReadErr) × IsRefusedAs limits s text e)
   some-reading = parsed (texts.some text)
+
+-- ---- without the limits
+
+module _ (s : Schema) (text : List ℕ) where
+  pub also-kept : (d : Database) → IsRead Asked s text d → IsRead Waived s text d
+  also-kept d (ts, t, g) = (ts, t, record { reads = g.reads; within = refl })
+
+  pub above-limits : (what : Limit) → IsRefusedAs Asked s text (err.Full what) → (d : Database) × IsRead Waived s text d
+  above-limits what (ts, t, (d, reads, over)) = (d, (ts, t, record { reads = reads; within = refl }))
+
+  pub never-full : (what : Limit) → IsRefusedAs Waived s text (err.Full what) → ⊥
+  never-full what (ts, t, (d, reads, over)) = cc

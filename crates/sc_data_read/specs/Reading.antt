@@ -9,18 +9,19 @@ use Rattle.sc_data_parse.specs.Refused as parse
 use Rattle.sc_data_judge.specs.declared.fault.Fault.TheVariants as fault
 use Rattle.sc_data_judge.specs.declared.fault.Refusal.{Refusal}
 use Rattle.sc_data_judge.specs.declared.fault.Refusal.TheVariants as refusal
+use Rattle.sc_data_judge.specs.declared.limits.Limits.{Limits}
 use Rattle.sc_data_judge.specs.Judged as judge
 use Rattle.sc_data_read.specs.declared.read_err.ReadErr.{ReadErr}
 use Rattle.sc_data_read.specs.declared.read_err.ReadErr.TheVariants as err
 
-module _ (s : Schema) (text : List ℕ) where
+module _ (limits : Limits) (s : Schema) (text : List ℕ) where
   -- The text spells tables in which nothing is wrong, and they write the database.
   abbrev pub IsRead : Database → Type 0
-  IsRead d = (ts : List TableLit) × IsDataText text ts × judge.IsGiven s ts d
+  IsRead d = (ts : List TableLit) × IsDataText text ts × judge.IsGiven limits s ts d
 
   -- The text spells tables, and this is wrong with them first.
   abbrev pub AreRefusedFor : Refusal → Type 0
-  AreRefusedFor r = (ts : List TableLit) × IsDataText text ts × judge.IsRefusedFor s ts r
+  AreRefusedFor r = (ts : List TableLit) × IsDataText text ts × judge.IsRefusedFor limits s ts r
 
   -- The text spells no tables, for this cause and at this place; or this is wrong with them first.
   abbrev pub IsRefusedAs : ReadErr → Type 0

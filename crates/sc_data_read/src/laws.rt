@@ -2,19 +2,29 @@
 
 ghost use Rattle.std.specs.Prelude.{ℕ, List, ◌≡◌, ◌⊎◌};
 ghost use Rattle.sc_data.specs.Database.{Database};
+ghost use Rattle.sc_data_judge.specs.declared.limits.Limits.{Limits};
 ghost use Rattle.sc_data_read.specs.Reading.{IsRead, IsRefusedAs};
 ghost use Rattle.sc_data_read.specs.declared.read_err.ReadErr.{ReadErr};
+ghost use Rattle.sc_records.specs.declared.data_err.Limit.{Limit};
 ghost use Rattle.sc_schema.specs.Schema.{Schema};
 
 /// A text writes one database over a schema, or it is refused for one cause at one place, and never
-/// both.
+/// both, whether or not the limits are asked. Without them, what is read with them is read as well,
+/// and what was refused for them alone.
 pub fn one_reading()
-    ensures some { (s : Schema) (text : List ℕ) →
-        ((d : Database) × IsRead s text d) ⊎ ((err : ReadErr) × IsRefusedAs s text err) }
-    ensures one { (s : Schema) (text : List ℕ) (d e : Database) →
-        IsRead s text d → IsRead s text e → d ≡ e }
-    ensures read { (s : Schema) (text : List ℕ) (d : Database) (err : ReadErr) →
-        IsRead s text d → ¬ (IsRefusedAs s text err) }
-    ensures refusal { (s : Schema) (text : List ℕ) (err other : ReadErr) →
-        IsRefusedAs s text err → IsRefusedAs s text other → err ≡ other }
+    ensures some { (l : Limits) (s : Schema) (text : List ℕ) →
+        ((d : Database) × IsRead l s text d) ⊎ ((err : ReadErr) × IsRefusedAs l s text err) }
+    ensures one { (l : Limits) (s : Schema) (text : List ℕ) (d e : Database) →
+        IsRead l s text d → IsRead l s text e → d ≡ e }
+    ensures read { (l : Limits) (s : Schema) (text : List ℕ) (d : Database) (err : ReadErr) →
+        IsRead l s text d → ¬ (IsRefusedAs l s text err) }
+    ensures refusal { (l : Limits) (s : Schema) (text : List ℕ) (err other : ReadErr) →
+        IsRefusedAs l s text err → IsRefusedAs l s text other → err ≡ other }
+    ensures kept { (s : Schema) (text : List ℕ) (d : Database) →
+        IsRead Limits.Asked s text d → IsRead Limits.Waived s text d }
+    ensures above { (s : Schema) (text : List ℕ) (what : Limit) →
+        IsRefusedAs Limits.Asked s text (ReadErr.Full what) →
+        (d : Database) × IsRead Limits.Waived s text d }
+    ensures full { (s : Schema) (text : List ℕ) (what : Limit) →
+        ¬ (IsRefusedAs Limits.Waived s text (ReadErr.Full what)) }
 {}

@@ -6,7 +6,7 @@
 //! | module | holds |
 //! |---|---|
 //! | `read_err` | [`ReadErr`] |
-//! | `read` | [`read_database`] |
+//! | `read` | [`read_database`]; [`reload_database`], without the limits |
 //! | `laws` | what holds of any text |
 #![tactic(auto)]
 
@@ -15,5 +15,5 @@ mod read;
 mod read_err;
 
 pub use laws::one_reading;
-pub use read::read_database;
+pub use read::{read_database, reload_database};
 pub use read_err::ReadErr;

@@ -3,16 +3,37 @@
 ghost use Rattle.std.specs.Prelude.{IfErr, IfOk, length, map, ◌<◌, ◌^◌, ◌≡◌, ◌≢◌};
 ghost use Rattle.sc_data.specs.Database as plain;
 ghost use Rattle.sc_data.specs.Database.{IsDatabase};
+ghost use Rattle.sc_data_judge.specs.declared.limits.Limits.{Limits};
 ghost use Rattle.sc_data_read.specs.Reading.{IsRead, IsRefusedAs};
+ghost use Rattle.sc_records.specs.declared.data_err.Limit.{Limit};
 ghost use Rattle.sc_schema.specs.Proper.{IsProper, model_numbers};
 ghost use Rattle.sc_schema.specs.SchemaViews.{schema_of};
 
 use crate::read_err::ReadErr;
-use sc_data_judge::judge;
+use sc_data_judge::{Limits, judge};
 use sc_data_parse::parse_data;
 use sc_records::Database;
 use sc_schema::Schema;
 use std::alloc::Global;
+
+/// The database that a text writes, with or without the limits.
+fn read_within(alloc: Global, limits: Limits, text: &[u8], s: &Schema) -> Result<Database, ReadErr>
+    requires few { length text.now < 2 ^ 32 }
+    requires proper { IsProper (schema_of s.now) }
+    ensures ok { IfOk result (λ d. IsRead limits (schema_of s.now) text.now d) }
+    ensures only { IfOk result (λ d. (e : plain.Database) →
+        IsRead limits (schema_of s.now) text.now e → e ≡ d) }
+    ensures database { IfOk result (λ d. IsDatabase (schema_of s.now) d) }
+    ensures order { IfOk result (λ d. map (λ t. t.model) d
+        ≡ model_numbers (schema_of s.now).models) }
+    ensures refused { IfErr result (λ err. err ≢ ReadErr.OutOfMemory →
+        IsRefusedAs limits (schema_of s.now) text.now err) }
+    ensures none { IfErr result (λ err. err ≢ ReadErr.OutOfMemory →
+        (d : plain.Database) → ¬ (IsRead limits (schema_of s.now) text.now d)) }
+{
+    let tables = parse_data(alloc, text)?;
+    Ok(judge(alloc, limits, tables.as_slice(), s)?)
+}
 
 /// The database over a schema that a text writes, or why it writes none, and where.
 ///
@@ -24,17 +45,36 @@ use std::alloc::Global;
 pub fn read_database(alloc: Global, text: &[u8], s: &Schema) -> Result<Database, ReadErr>
     requires few { length text.now < 2 ^ 32 }
     requires proper { IsProper (schema_of s.now) }
-    ensures ok { IfOk result (λ d. IsRead (schema_of s.now) text.now d) }
+    ensures ok { IfOk result (λ d. IsRead Limits.Asked (schema_of s.now) text.now d) }
     ensures only { IfOk result (λ d. (e : plain.Database) →
-        IsRead (schema_of s.now) text.now e → e ≡ d) }
+        IsRead Limits.Asked (schema_of s.now) text.now e → e ≡ d) }
     ensures database { IfOk result (λ d. IsDatabase (schema_of s.now) d) }
     ensures order { IfOk result (λ d. map (λ t. t.model) d
         ≡ model_numbers (schema_of s.now).models) }
     ensures refused { IfErr result (λ err. err ≢ ReadErr.OutOfMemory →
-        IsRefusedAs (schema_of s.now) text.now err) }
+        IsRefusedAs Limits.Asked (schema_of s.now) text.now err) }
     ensures none { IfErr result (λ err. err ≢ ReadErr.OutOfMemory →
-        (d : plain.Database) → ¬ (IsRead (schema_of s.now) text.now d)) }
+        (d : plain.Database) → ¬ (IsRead Limits.Asked (schema_of s.now) text.now d)) }
 {
-    let tables = parse_data(alloc, text)?;
-    Ok(judge(alloc, tables.as_slice(), s)?)
+    read_within(alloc, Limits::Asked, text, s)
+}
+
+/// The same for a text that was kept, however much its database holds: a change of the schema may
+/// leave a database above the limits.
+pub fn reload_database(alloc: Global, text: &[u8], s: &Schema) -> Result<Database, ReadErr>
+    requires few { length text.now < 2 ^ 32 }
+    requires proper { IsProper (schema_of s.now) }
+    ensures ok { IfOk result (λ d. IsRead Limits.Waived (schema_of s.now) text.now d) }
+    ensures only { IfOk result (λ d. (e : plain.Database) →
+        IsRead Limits.Waived (schema_of s.now) text.now e → e ≡ d) }
+    ensures database { IfOk result (λ d. IsDatabase (schema_of s.now) d) }
+    ensures order { IfOk result (λ d. map (λ t. t.model) d
+        ≡ model_numbers (schema_of s.now).models) }
+    ensures refused { IfErr result (λ err. err ≢ ReadErr.OutOfMemory →
+        IsRefusedAs Limits.Waived (schema_of s.now) text.now err) }
+    ensures none { IfErr result (λ err. err ≢ ReadErr.OutOfMemory →
+        (d : plain.Database) → ¬ (IsRead Limits.Waived (schema_of s.now) text.now d)) }
+    ensures full { IfErr result (λ err. (what : Limit) → err ≢ ReadErr.Full what) }
+{
+    read_within(alloc, Limits::Waived, text, s)
 }

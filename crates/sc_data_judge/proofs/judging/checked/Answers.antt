@@ -1,7 +1,6 @@
 use Rattle.std.proofs.Common.{◌≡◌, ◌∙◌, sym}
 use Rattle.std.specs.Prelude.{None}
 use Rattle.sc_schema.specs.SchemaViews.{schema_of}
-use Rattle.sc_data_judge.specs.Ranged.{IsRanged}
 use Rattle.sc_data_judge.specs.References.{lost}
 use Rattle.sc_data_judge.proofs.Standard.{in-order, standard}
 use Rattle.sc_data_judge.proofs.judging.checked.Goals as goal
@@ -11,8 +10,7 @@ returns-in-None-excess-clause-database c =
     let s = schema_of c.args.s.now in
     let first = rw c.as_slice.ensures at c.lost.ensures in
     let found : lost s c.args.database c.args.ts.now ≡ None = sym first ∙ c.in-None.is in
-    let range : IsRanged c.args.database = rw c.in-None-excess.is at c.requires.ranged in
-    standard s c.args.ts.now c.args.database c.requires.proper (record { writes = c.requires.writes; found = found }) range
+    standard s c.args.ts.now c.args.database c.requires.proper (record { writes = c.requires.writes; found = found }) c.requires.ranged
 
 pub returns-in-None-excess-clause-order : goal.returns-in-None-excess-clause-order
 returns-in-None-excess-clause-order c =

@@ -1,4 +1,4 @@
-use Rattle.sc_data_read.proofs.OneReading.{one-read, read-not-refused, one-reason, some-reading}
+use Rattle.sc_data_read.proofs.OneReading.{one-read, read-not-refused, one-reason, some-reading, also-kept, above-limits, never-full}
 use Rattle.sc_data_read.proofs.laws.one_reading.Goals as goal
 
 pub returns-clause-some : goal.returns-clause-some
@@ -12,3 +12,12 @@ returns-clause-read c = read-not-refused
 
 pub returns-clause-refusal : goal.returns-clause-refusal
 returns-clause-refusal c = one-reason
+
+pub returns-clause-kept : goal.returns-clause-kept
+returns-clause-kept c = also-kept
+
+pub returns-clause-above : goal.returns-clause-above
+returns-clause-above c = above-limits
+
+pub returns-clause-full : goal.returns-clause-full
+returns-clause-full c = never-full

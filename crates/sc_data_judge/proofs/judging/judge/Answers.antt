@@ -1,0 +1,8 @@
+use Rattle.std.proofs.Common.{rules, ◌≡◌}
+use Rattle.std.specs.Prelude.{Err}
+use Rattle.sc_data_judge.proofs.judging.judge.Goals as goal
+
+pub returns-in_err-tables-clause-refused : goal.returns-in_err-tables-clause-refused
+returns-in_err-tables-clause-refused c =
+    let same : c.from_residual.result ≡ Err c.in_err-tables.field-0.0 = search rules in
+    rw same (c.in_err-tables.ensures.refused c.args.limits)
