@@ -7,9 +7,8 @@ ghost use Rattle.sc_schema.specs.SchemaViews.{model_info_of, schema_of};
 ghost use Rattle.sc_witness.specs.Built.{built, built_record, built_table};
 
 use crate::source::Source;
-use sc_records::{Record, Table};
+use sc_records::{Record, Slots, Table};
 use sc_schema::ModelInfo;
-use sqlite_items::Items;
 use std::alloc::{AllocError, Global};
 
 impl Source<'_> {
@@ -22,7 +21,7 @@ impl Source<'_> {
         self.push_slots(alloc, &mut slots, info, info.fields.as_slice(), x)?;
         Ok(Record {
             id: u64::from(x) + 1,
-            slots: Items::from_vec(slots),
+            slots: Slots::from_vec(slots),
         })
     }
 

@@ -8,10 +8,9 @@ ghost use Rattle.sc_scan.specs.Reading.{Reads, ReadsAs};
 ghost use Rattle.sc_schema.specs.SchemaViews.{field_info_of, model_info_of};
 
 use crate::values::{read_id, read_value};
-use sc_records::{Record, Slot, Table};
+use sc_records::{Record, Slot, Slots, Table};
 use sc_scan::{Scanner, Stop};
 use sc_schema::{FieldInfo, ModelInfo};
-use sqlite_items::Items;
 use std::alloc::{AllocError, Global};
 
 /// The slot of a field at the front.
@@ -35,7 +34,7 @@ fn push_slots(
     scanner: &mut Scanner<'_>,
     separator: &[u8],
     fields: &[FieldInfo],
-    slots: &mut Items<Slot>,
+    slots: &mut Slots,
 ) -> Result<(), Stop>
     ensures { ReadsAs (λ _. map slot_data slots.new)
         (slots_from (map slot_data slots.old) separator.now (map field_info_of fields.now)
@@ -63,7 +62,7 @@ fn read_record(
 {
     let id = read_id(scanner)?;
     scanner.word(b" {")?;
-    let mut slots = Items::new(alloc);
+    let mut slots = Slots::new(alloc);
     push_slots(alloc, scanner, b"", fields, &mut slots)?;
     scanner.word(b"}\n")?;
     Ok(Record { id, slots })

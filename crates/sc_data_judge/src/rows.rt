@@ -11,7 +11,7 @@ use crate::literals::id_in;
 use crate::names::field_written;
 use crate::numbers::Numbers;
 use sc_data_tree::{FieldLit, Lit, RecordLit};
-use sc_records::{Record, Slot, Value};
+use sc_records::{Record, Slot, Slots, Value};
 use sc_schema::FieldInfo;
 use sqlite_items::{Boxed, Items};
 use std::alloc::{AllocError, Global};
@@ -98,7 +98,7 @@ fn push_slots(
     alloc: Global,
     ws: &[FieldLit],
     fields: &[FieldInfo],
-    slots: &mut Items<Slot>,
+    slots: &mut Slots,
 ) -> Result<(), AllocError>
     ensures { OnOk result (map slot_data slots.new
         ≡ map slot_data slots.old
@@ -123,7 +123,7 @@ pub(crate) fn record_of(
     ensures { IfOk result (λ made. record_data made
         ≡ meaning.record_of (map field_info_of fields.now) row.now) }
 {
-    let mut slots = Items::new(alloc);
+    let mut slots = Slots::new(alloc);
     push_slots(alloc, row.fields.as_slice(), fields, &mut slots)?;
     Ok(Record {
         id: row.id.number,

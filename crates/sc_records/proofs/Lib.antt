@@ -1,8 +1,11 @@
 pub mod Searches
 pub mod Tables
+pub mod Turned
 pub mod Pushed
 pub mod Summed
 pub mod Firsts
+pub mod KeptAnew
+pub mod NewNumbers
 pub mod Changes
 pub mod Places
 pub mod Stays

@@ -3,9 +3,7 @@ use Rattle.std.proofs.Common.{◌≡◌, ℕ, ◌+◌, List, [], ◌∷◌, map,
 use Rattle.std.specs.List.{sum_by}
 use Rattle.std.proofs.lemmas.List.{length-map}
 use Rattle.std.proofs.lemmas.List.Sums.{sum_by-cons}
-use Rattle.sc_data.specs.Values.{Value}
-use Rattle.sc_data.specs.Database.{Slot, Record, Table}
-use Rattle.sc_records.specs.declared.record.Slot as code_slot
+use Rattle.sc_data.specs.Database.{Slot, Table}
 use Rattle.sc_records.specs.declared.record.Record as code_record
 use Rattle.sc_records.specs.declared.table.Table as code_table
 use Rattle.sc_records.specs.Views.{value_data, slot_data, record_data, table_data}

@@ -6,6 +6,7 @@ pub mod Kept
 pub mod Principals
 pub mod Public
 pub mod Removed
+pub mod Renumbered
 pub mod Rising
 pub mod Room
 pub mod Rows

@@ -9,4 +9,5 @@ pub use Rattle.sc_records.specs.Rising.{AreRising}
 pub use Rattle.sc_records.specs.Changed.{with_field, has_field, HasRoomFor, IsFitting, IsUnfit, Sets}
 pub use Rattle.sc_records.specs.Removed.{first_reference, without_record, IsHeld, Removes}
 pub use Rattle.sc_records.specs.Principals.{is_principal_of}
+pub use Rattle.sc_records.specs.Renumbered.{new_model, new_field, HasNewNumbers, renumbered}
 pub use Rattle.sc_records.specs.Keeping.{ChangesKeep, DatabasesStay, RecordsHaveFields}

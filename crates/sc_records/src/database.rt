@@ -1,6 +1,6 @@
 //! Databases.
 
-ghost use Rattle.std.specs.Prelude.{◌≡◌, ◌==◌, ◌+◌, ◌-◌, ◌<◌, ◌≤◌, length, map, option_copied};
+ghost use Rattle.std.specs.Prelude.{◌≡◌, ◌==◌, ◌+◌, ◌-◌, ◌<◌, ◌≤◌, ◌^◌, length, map, option_copied};
 ghost use Rattle.std.specs.Prelude.{position, true, IfSome, MatchOption};
 ghost use Rattle.std.specs.Prelude.{IfErr, IfOk, OnErr, OnOk};
 ghost use Rattle.std.specs.List.{find};
@@ -17,6 +17,8 @@ ghost use Rattle.sc_records.specs.Changed.{has_field, HasRoomFor, IsFitting, IsU
 ghost use Rattle.sc_records.specs.Changed.{with_field};
 ghost use Rattle.sc_records.specs.Principals.{is_principal_of};
 ghost use Rattle.sc_records.specs.Removed.{Removes, without_record};
+ghost use Rattle.sc_records.specs.Renumbered.{HasNewNumbers, field_count, renumbered};
+ghost use Rattle.sc_records.specs.Renumbered.{renumbered_table};
 ghost use Rattle.sc_schema.specs.SchemaViews.{field_info_of, model_info_of, schema_of};
 
 use crate::data_err::{DataErr, Limit};
@@ -25,12 +27,12 @@ use crate::record::{Record, Slot};
 use crate::references::first_reference;
 use crate::rows::{first_dangling, first_wrong, push_slots};
 use crate::shape::{Coming, dangling_in, has_shape};
+use crate::slots::Slots;
 use crate::table::{Table, record_in};
 use crate::value::Value;
 use crate::weights::{count_in, slots_weight, weight, weight_in, without_row, without_value};
 use sc_data::Principal;
 use sc_schema::{FieldInfo, FieldNo, ModelInfo, ModelNo, Schema};
-use sqlite_items::Items;
 use std::alloc::{AllocError, Global};
 use std::marker::Model;
 
@@ -282,7 +284,7 @@ impl Database {
         push_slots(alloc, &mut slots, info.fields.as_slice(), row)?;
         let record = Record {
             id,
-            slots: Items::from_vec(slots),
+            slots: Slots::from_vec(slots),
         };
         self.push(info.number, record, weight)?;
         Ok(id)
@@ -432,5 +434,29 @@ impl Database {
                 Ok(())
             }
         }
+    }
+}
+
+/// Gives each table, and each value in it, the new number of its model and field.
+fn renumber_tables(tables: &mut [Table], models: &[ModelInfo])
+    requires models { length models.now < 2 ^ 32 }
+    requires fields { field_count (map model_info_of models.now) < 2 ^ 32 }
+    ensures { map table_data tables.new
+        ≡ map (renumbered_table (map model_info_of models.now)) (map table_data tables.old) }
+{
+    for table in tables.iter_mut() {
+        table.renumber(models);
+    }
+}
+
+impl Database {
+    /// Gives each table the number that its model has in the schema numbered anew, and each value
+    /// that of its field: their places in the order of the schema, the fields on through all
+    /// models. Ids and values stay. It takes no memory.
+    pub fn renumber(&mut self, s: &Schema)
+        requires { HasNewNumbers (schema_of s.now) }
+        ensures { self.new ≡ renumbered (schema_of s.now) self.old }
+    {
+        renumber_tables(self.tables.as_mut_slice(), s.models.as_slice());
     }
 }

@@ -4,12 +4,13 @@
 //! |---|---|
 //! | `database` | `Database` |
 //! | `value` | `Value`, what a field holds |
-//! | `record` | `Record`, with a value for each field |
+//! | `record`, `slots` | `Record`, with a value for each field |
 //! | `data_err` | `DataErr`, why a change is refused |
 //! | `shape`, `rows`, `weights` | which values and rows fit |
 //! | `table` | the records of a model |
 //! | `references` | which fields name a record |
 //! | `principals` | principals of a schema |
+//! | `numbers` | the numbers of a schema numbered anew |
 //! | `laws` | laws over the definitions |
 //!
 //! `specs/Views.antt` says which plain data the types stand for.
@@ -18,11 +19,13 @@
 mod data_err;
 mod database;
 mod laws;
+mod numbers;
 mod principals;
 mod record;
 mod references;
 mod rows;
 mod shape;
+mod slots;
 mod table;
 mod value;
 mod weights;
@@ -32,5 +35,6 @@ pub use database::Database;
 pub use laws::{databases_stay, records_have_fields};
 pub use record::{Record, Slot};
 pub use references::Reference;
+pub use slots::Slots;
 pub use table::Table;
 pub use value::Value;

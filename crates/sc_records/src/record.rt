@@ -1,14 +1,16 @@
 //! Records.
 
-ghost use Rattle.std.specs.Prelude.{◌≡◌, ◌==◌, map, option_copied, position};
+ghost use Rattle.std.specs.Prelude.{◌≡◌, ◌==◌, ◌<◌, ◌^◌, map, option_copied, position};
 ghost use Rattle.std.specs.List.{find};
 ghost use Rattle.std.specs.Option.{option_map};
 ghost use Rattle.sc_records.specs.Changed.{with_value};
+ghost use Rattle.sc_records.specs.Renumbered.{field_count, new_field, record_numbered_by};
 ghost use Rattle.sc_records.specs.Views.{record_data, slot_data, value_data};
+ghost use Rattle.sc_schema.specs.SchemaViews.{model_info_of};
 
+use crate::slots::Slots;
 use crate::value::Value;
-use sc_schema::FieldNo;
-use sqlite_items::Items;
+use sc_schema::{FieldNo, ModelInfo, ModelNo};
 
 /// The value of a field, which is known by its number.
 #[derive(Drop)]
@@ -21,7 +23,7 @@ pub struct Slot {
 #[derive(Drop)]
 pub struct Record {
     pub id: u64,
-    pub slots: Items<Slot>,
+    pub slots: Slots,
 }
 
 /// The slot of a field.
@@ -48,6 +50,16 @@ impl Record {
             Some(place) => self.slots.set(place, slot),
             None => {}
         }
+    }
+
+    /// Gives each value the new number of its field, which is one of the model.
+    pub(crate) fn renumber(&mut self, models: &[ModelInfo], m: ModelNo)
+        requires { field_count (map model_info_of models.now) < 2 ^ 32 }
+        ensures { record_data self.new
+            ≡ record_numbered_by (new_field (map model_info_of models.now) m)
+            (record_data self.old) }
+    {
+        self.slots.renumber(models, m);
     }
 
     /// The value of the field, or None where the record has no such field.

@@ -1,17 +1,21 @@
 //! Tables.
 
-ghost use Rattle.std.specs.Prelude.{◌≡◌, ◌==◌, ◌<◌, map, option_copied};
+ghost use Rattle.std.specs.Prelude.{◌≡◌, ◌==◌, ◌<◌, ◌^◌, length, map, option_copied};
 ghost use Rattle.std.specs.Prelude.{MatchOption, OnOk, OnErr};
 ghost use Rattle.std.specs.List.{find};
 ghost use Rattle.std.specs.List.Sorted.{IsStrictlyIncreasing};
 ghost use Rattle.sc_records.specs.Inserted.{with_record};
 ghost use Rattle.sc_records.specs.Changed.{with_value_in};
 ghost use Rattle.sc_records.specs.Removed.{without_record_in};
+ghost use Rattle.sc_records.specs.Renumbered.{field_count, new_field, record_numbered_by};
+ghost use Rattle.sc_records.specs.Renumbered.{renumbered_table};
 ghost use Rattle.sc_records.specs.Rising.{IsFirstAt};
 ghost use Rattle.sc_records.specs.Views.{record_data, table_data, value_data};
+ghost use Rattle.sc_schema.specs.SchemaViews.{model_info_of};
 
+use crate::numbers::new_model;
 use crate::record::{Record, Slot};
-use sc_schema::ModelNo;
+use sc_schema::{ModelInfo, ModelNo};
 use std::alloc::AllocError;
 
 /// The records of a model by rising id, and an id above all that were given so far.
@@ -42,6 +46,18 @@ fn place_of(records: &[Record], id: u64) -> Option<usize>
     match records.binary_search_by_key(&id, |record| record.id) {
         Ok(at) => Some(at),
         Err(_) => None,
+    }
+}
+
+/// Gives each value of records of the model the new number of its field.
+fn renumber_records(records: &mut [Record], models: &[ModelInfo], m: ModelNo)
+    requires { field_count (map model_info_of models.now) < 2 ^ 32 }
+    ensures { map record_data records.new
+        ≡ map (record_numbered_by (new_field (map model_info_of models.now) m))
+        (map record_data records.old) }
+{
+    for made in records.iter_mut() {
+        made.renumber(models, m);
     }
 }
 
@@ -84,5 +100,16 @@ impl Table {
         self.records.push(made)?;
         self.next += 1;
         Ok(())
+    }
+
+    /// Gives the table, and each value in it, the new number of its model and field.
+    pub(crate) fn renumber(&mut self, models: &[ModelInfo])
+        requires models { length models.now < 2 ^ 32 }
+        requires fields { field_count (map model_info_of models.now) < 2 ^ 32 }
+        ensures { table_data self.new
+            ≡ renumbered_table (map model_info_of models.now) (table_data self.old) }
+    {
+        renumber_records(self.records.as_mut_slice(), models, self.model);
+        self.model = new_model(models, self.model);
     }
 }

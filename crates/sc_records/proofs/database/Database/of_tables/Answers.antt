@@ -2,7 +2,6 @@ use Rattle.std.proofs.Common.{length, ap, sym, ◌∙◌}
 use Rattle.std.specs.List.{sum_by}
 use Rattle.sc_records.specs.Room.{weight_of}
 use Rattle.sc_records.specs.Views.{value_data}
-use Rattle.sc_records.specs.Kept.{IsKept}
 use Rattle.sc_records.proofs.Summed.{tables_weigh, tables_count}
 use Rattle.sc_records.proofs.database.Database.of_tables.Goals as goal
 

@@ -1,0 +1,93 @@
+//! The values of a record.
+
+ghost use Rattle.std.specs.Prelude.{◌≡◌, [], ◌∷◌, ◌++◌, ◌<◌, ◌^◌, length, map, slice_set};
+ghost use Rattle.std.specs.Prelude.{OnErr, OnOk};
+ghost use Rattle.sc_records.specs.Renumbered.{field_count, new_field, numbered_by};
+ghost use Rattle.sc_records.specs.Views.{slot_data};
+ghost use Rattle.sc_schema.specs.SchemaViews.{model_info_of};
+
+use crate::numbers::new_field;
+use crate::record::Slot;
+use sc_schema::{ModelInfo, ModelNo};
+use std::alloc::{AllocError, Global};
+use std::marker::Model;
+
+/// A value for each field of a record. Contracts see the list of them.
+#[derive(Drop)]
+pub struct Slots {
+    items: Vec<Slot>,
+}
+
+impl Model for Slots {
+    ghost use Rattle.std.specs.Prelude.{List};
+    ghost use Rattle.std.specs.Coded.{coded_list};
+    ghost use Rattle.sc_records.specs.declared.record.Slot.{Slot};
+    ghost use Rattle.sc_records.specs.contracts.record.Slot.{the_row};
+
+    ghost Value = { List Slot };
+
+    ghost coded = { coded_list the_row.coded };
+
+    ghost view = { λ slots. slots.items.items };
+}
+
+/// Gives each value the new number of its field, which is one of the model.
+fn renumber_slots(slots: &mut [Slot], models: &[ModelInfo], m: ModelNo)
+    requires { field_count (map model_info_of models.now) < 2 ^ 32 }
+    ensures { map slot_data slots.new
+        ≡ map (numbered_by (new_field (map model_info_of models.now) m))
+        (map slot_data slots.old) }
+{
+    for slot in slots.iter_mut() {
+        slot.field = new_field(0, models, m, slot.field);
+    }
+}
+
+impl Slots {
+    pub fn new(alloc: Global) -> Slots
+        ensures { result ≡ [] }
+    {
+        Slots {
+            items: Vec::new(alloc),
+        }
+    }
+
+    pub fn from_vec(items: Vec<Slot>) -> Slots
+        ensures { result ≡ items.items }
+    {
+        Slots { items }
+    }
+
+    pub fn as_slice(&self) -> &[Slot]
+        ensures { result.now ≡ self.now }
+    {
+        self.items.as_slice()
+    }
+
+    /// Adds a value at the end.
+    pub fn push(&mut self, slot: Slot) -> Result<(), AllocError>
+        ensures ok { OnOk result (self.new ≡ self.old ++ slot ∷ []) }
+        ensures err { OnErr result (self.new ≡ self.old) }
+    {
+        self.items.push(slot)?;
+        Ok(())
+    }
+
+    /// Puts a value in place of another.
+    pub(crate) fn set(&mut self, at: usize, slot: Slot)
+        requires { at < length self.old }
+        ensures { self.new ≡ slice_set self.old at slot }
+    {
+        self.items[at] = slot;
+    }
+
+    /// Gives each value the new number of its field, which is one of the model.
+    pub(crate) fn renumber(&mut self, models: &[ModelInfo], m: ModelNo)
+        requires { field_count (map model_info_of models.now) < 2 ^ 32 }
+        ensures { map slot_data self.new
+            ≡ map (numbered_by (new_field (map model_info_of models.now) m))
+            (map slot_data self.old) }
+    {
+        renumber_slots(self.items.as_mut_slice(), models, m);
+    }
+}

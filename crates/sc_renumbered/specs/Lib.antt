@@ -1,0 +1,4 @@
+pub mod Anew
+pub mod Laws
+pub mod Policies
+pub mod Public
