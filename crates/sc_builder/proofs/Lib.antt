@@ -1,8 +1,11 @@
 pub mod Asked
 pub mod Costs
+pub mod Counting
 pub mod Forms
 pub mod Lists
+pub mod Once
 pub mod Reaching
+pub mod Scenes
 pub mod Standing
 pub mod Types
 pub mod Walks

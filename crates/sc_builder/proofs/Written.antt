@@ -75,14 +75,3 @@ not_both a m b f other = grind arith
 
 pub not_first : (a m b f : ℕ) → (a ≡ m → ⊥) → ((a == m) && (b == f)) ≡ false
 not_first a m b f other = grind arith
-
--- what stands at a place
-pub get_some : {A : Type 0} (xs : List A) (i : ℕ) (d x : A) → slice_get xs i ≡ Some x → get_or xs i d ≡ x
-get_some [] i d x e = cc
-get_some (y ∷ xs) zero d x e = same_Some y x e
-get_some (y ∷ xs) (suc i) d x e = get_some xs i d x e
-
-pub get_none : {A : Type 0} (xs : List A) (i : ℕ) (d : A) → slice_get xs i ≡ None → get_or xs i d ≡ d
-get_none [] i d e = refl
-get_none (y ∷ xs) zero d e = cc
-get_none (y ∷ xs) (suc i) d e = get_none xs i d e

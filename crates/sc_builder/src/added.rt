@@ -1,6 +1,6 @@
 //! Which added field is written out, and the values of variables.
 
-ghost use Rattle.std.specs.Prelude.{◌≡◌, length, slice_get, slice_index_or, IfOk, MatchOption};
+ghost use Rattle.std.specs.Prelude.{◌≡◌, ℕ, ◌+◌, suc, length, min, slice_index_or, IfOk, MatchOption};
 ghost use Rattle.std.specs.Prelude.{None, Some};
 ghost use Rattle.sc_schema.specs.Views.{init_of};
 ghost use Rattle.sc_duty.specs.Formulas.{init_cases};
@@ -44,26 +44,41 @@ pub(crate) fn upto_of(scene: &Scene<'_>) -> usize
     }
 }
 
-/// How many variables there are, and the value of the one that so many stand outside of.
-fn value_in<'a>(
-    start: &Start<'_>,
-    scene: &Scene<'a>,
-    depth: u32,
-) -> Result<(u32, Option<&'a End<'a>>), AllocError>
-    ensures { IfOk result (λ r. (length (scene_data start.now scene.now) ≡ r.0) ×
-        MatchOption r.1 (slice_get (scene_data start.now scene.now) depth ≡ None)
-        (λ end. slice_get (scene_data start.now scene.now) depth ≡ Some (end_data start.now end.now))) }
+/// How many variables there are, and so many more. It stays at the largest number of 32 bits.
+fn variables(start: &Start<'_>, scene: &Scene<'_>, more: u32) -> u32
+    ensures { result ≡ min (length (scene_data start.now scene.now) + more) 4294967295 }
 {
     match scene {
-        Scene::Start(_) => Ok((0, None)),
-        Scene::Inner(outer, end) => {
-            let (count, found) = value_in(start, &**outer, depth)?;
-            let Some(more) = count.checked_add(1) else {
-                return Err(AllocError);
-            };
-            let found = if count == depth { Some(*end) } else { found };
-            Ok((more, found))
-        }
+        Scene::Start(_) => more,
+        Scene::Inner(outer, _) => variables(start, &**outer, more.saturating_add(1)),
+    }
+}
+
+/// The variables of a scene without the innermost ones, of which there are so many.
+fn without<'b, 'a>(start: &Start<'_>, scene: &'b Scene<'a>, inside: u32) -> &'b Scene<'a>
+    ensures { (depth : ℕ) → depth + suc inside ≡ length (scene_data start.now scene.now)
+        → (depth + 1 ≡ length (scene_data start.now result.now))
+        × (slice_index_or (scene_data start.now result.now) depth cases.none
+        ≡ slice_index_or (scene_data start.now scene.now) depth cases.none) }
+{
+    match scene {
+        Scene::Start(_) => scene,
+        Scene::Inner(outer, _) => match inside.checked_sub(1) {
+            Some(less) => without(start, &**outer, less),
+            None => scene,
+        },
+    }
+}
+
+/// The value of the innermost variable, or none.
+fn innermost<'a>(start: &Start<'_>, scene: &Scene<'a>) -> End<'a>
+    ensures { (depth : ℕ) → depth + 1 ≡ length (scene_data start.now scene.now)
+        → end_data start.now result
+        ≡ slice_index_or (scene_data start.now scene.now) depth cases.none }
+{
+    match scene {
+        Scene::Start(_) => End::None,
+        Scene::Inner(_, end) => **end,
     }
 }
 
@@ -76,9 +91,15 @@ pub(crate) fn value_at<'a>(
     ensures { IfOk result (λ end. end_data start.now end
         ≡ slice_index_or (scene_data start.now scene.now) depth cases.none) }
 {
-    let (_, found) = value_in(start, scene, depth)?;
-    Ok(match found {
-        Some(end) => *end,
-        None => End::None,
-    })
+    let count = variables(start, scene, 0);
+    if count == u32::MAX {
+        return Err(AllocError);
+    }
+    match count.checked_sub(depth) {
+        Some(left) => match left.checked_sub(1) {
+            Some(inside) => Ok(innermost(start, without(start, scene, inside))),
+            None => Ok(End::None),
+        },
+        None => Ok(End::None),
+    }
 }

@@ -48,7 +48,9 @@ pub fn write(
         Part::Member(scene, set, who, sign) => {
             member(w, start, &**scene, &**set, &**who, *sign, above, fuel)
         }
-        Part::Present(sign, m, f, t) => w.present(*sign, start.function_of(*m, *f), &**t),
+        Part::Present(sign, m, f, t) => {
+            w.present(*sign, start.function_for(w.mode, *m, *f), &**t)
+        }
         Part::Reach(scene, used, y) => { reach(w, start, &**scene, &**used, &**y, above, fuel) }
     }
 }
@@ -490,7 +492,7 @@ fn end_holds(
 {
     let fuel = deeper(fuel)?;
     match end {
-        End::Held(m, f, t) => w.flag(sign, start.function_of(*m, *f), &**t),
+        End::Held(m, f, t) => w.flag(sign, start.function_for(w.mode, *m, *f), &**t),
         End::Truth(scene, e) => condition(w, start, &**scene, &**e, sign, above, fuel),
         End::Term(_) | End::Among(..) | End::None | End::Some(_) => w.constant(false),
     }
@@ -512,7 +514,7 @@ fn end_has(
 {
     let fuel = deeper(fuel)?;
     match end {
-        End::Held(m, f, t) => w.has(sign, start.relation_of(*m, *f), &**t, &*u),
+        End::Held(m, f, t) => w.has(sign, start.relation_for(w.mode, *m, *f), &**t, &*u),
         End::Among(scene, m, set) => {
             let who = Who::Record(*m, &*u);
             member(w, start, &**scene, &**set, &who, sign, above, fuel)

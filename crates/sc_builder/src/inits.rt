@@ -190,6 +190,10 @@ pub fn init_size(alloc: Global, start: &Start<'_>, ty: TTy, init: &TInit) -> Res
         ≡ sizes.init_size (schema_in start.now) ty (init_of init.now)) }
 {
     let written = size_upto(alloc, start, start.added.len(), ty, init)?;
+    if start.added.is_empty() {
+        // There is nothing to write out.
+        return Ok(written);
+    }
     let plain = size_upto(alloc, start, 0, ty, init)?;
     Ok(written.max(plain))
 }

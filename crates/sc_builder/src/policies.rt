@@ -87,6 +87,10 @@ pub fn policy_size(alloc: Global, start: &Start<'_>, policy: &TPolicy) -> Result
         ≡ sizes.policy_size (schema_in start.now) (policy_of policy.now)) }
 {
     let written = size_upto(alloc, start, start.added.len(), policy)?;
+    if start.added.is_empty() {
+        // There is nothing to write out.
+        return Ok(written);
+    }
     let plain = size_upto(alloc, start, 0, policy)?;
     Ok(written.max(plain))
 }

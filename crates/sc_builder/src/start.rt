@@ -8,9 +8,11 @@ ghost use Rattle.sc_schema.specs.SchemaViews.{schema_of};
 ghost use Rattle.sc_schema.specs.Schema.{type_of};
 ghost use Rattle.sc_duty.specs.Structures.{sort_of, function_of, relation_of};
 ghost use Rattle.sc_numbering.specs.Numbers.{numbers_of};
+ghost use Rattle.sc_writer.specs.declared.writer.Mode.TheVariants.{Build};
 
 use sc_numbering::Numbering;
 use sc_schema::{FieldInfo, FieldNo, ModelInfo, ModelNo, Schema, TBase, TInit, TTy};
+use sc_writer::Mode;
 use std::rc::Rc;
 
 /// A schema with its numbers, and the fields that a script added to it.
@@ -45,6 +47,27 @@ impl Start<'_> {
         ensures { result ≡ relation_of (schema_of self.now.schema.now) m f }
     {
         self.numbering.relation_of(m, f)
+    }
+
+    /// The function that a field is, where formulas are written. Where they are only counted it does
+    /// not matter, and is not looked up.
+    pub(crate) fn function_for(&self, mode: Mode, m: ModelNo, f: FieldNo) -> u32
+        ensures { mode ≡ Build → result ≡ function_of (schema_of self.now.schema.now) m f }
+    {
+        match mode {
+            Mode::Build => self.function_of(m, f),
+            Mode::Count => 0,
+        }
+    }
+
+    /// The set relation that a field is, where formulas are written.
+    pub(crate) fn relation_for(&self, mode: Mode, m: ModelNo, f: FieldNo) -> u32
+        ensures { mode ≡ Build → result ≡ relation_of (schema_of self.now.schema.now) m f }
+    {
+        match mode {
+            Mode::Build => self.relation_of(m, f),
+            Mode::Count => 0,
+        }
     }
 
     /// Whether a field holds truth values.

@@ -30,6 +30,7 @@ use Rattle.sc_writer.specs.Made.{MakesFor}
 use Rattle.sc_builder.proofs.Forms.{Flag_is, Eq_is, Iff_is, Less_is, Member_is, Not_is, And_is, Or_is, Everyone_set, Nobody_set}
 use Rattle.sc_builder.proofs.Walks.{makes_same, ap2, walk_get, walk_match, walk_some, whole_form, ask_done, wrap_truth, wrap_other}
 use Rattle.sc_builder.proofs.Asked.{left_le, both_le, part_later, part_made, end_ends, walk_if, eq_is, iff_is, less_is, within_is, not_is, and_is, or_is, sum_is, minus_is, path_is, path_other, if_is, match_is, mapped_is, flat_is, equal_truths, equal_terms}
+use Rattle.sc_builder.proofs.Counting.{made_for, size-flag, size-has, size-present}
 use Rattle.sc_builder.proofs.+formulas.Goals as goal
 
 pub formulas::ask-returns-in_err-fuel : goal.formulas::ask-returns-in_err-fuel
@@ -178,8 +179,9 @@ pub formulas::write-returns-in-Present : goal.formulas::write-returns-in-Present
 formulas::write-returns-in-Present t c =
     let st = c.args.start.now in
     makes_same _ _ _ _ _
-    (ap (λ n. atom c.in-Present.sign (tree.present n (term_data c.in-Present.t.now))) c.function_of.ensures ∙ ap (part_data st c.args.above) (sym c.in-Present.is))
-    c.present.ensures
+    (ap (part_data st c.args.above) (sym c.in-Present.is))
+    (made_for (λ n. atom c.in-Present.sign (tree.present n (term_data c.in-Present.t.now))) _ _ _ _ _
+    (size-present c.in-Present.sign _ _ (term_data c.in-Present.t.now)) c.function_for.ensures c.present.ensures)
 
 pub formulas::join-returns-in_err-a : goal.formulas::join-returns-in_err-a
 formulas::join-returns-in_err-a t c =
@@ -519,8 +521,9 @@ formulas::end_holds-returns-in-Held t c =
     let st = c.args.start.now in
     let s = schema_in st in
     makes_same _ _ _ _ _
-    (ap (λ k. atom c.args.sign (tree.flag k (term_data c.in-Held.t.now))) c.function_of.ensures ∙ ap (λ (x : End). end_holds s c.args.sign c.args.above (end_data st x)) (sym c.in-Held.is))
-    c.flag.ensures
+    (ap (λ (x : End). end_holds s c.args.sign c.args.above (end_data st x)) (sym c.in-Held.is))
+    (made_for (λ k. atom c.args.sign (tree.flag k (term_data c.in-Held.t.now))) _ _ _ _ _
+    (size-flag c.args.sign _ _ (term_data c.in-Held.t.now)) c.function_for.ensures c.flag.ensures)
 
 pub formulas::end_holds-returns-in-Truth : goal.formulas::end_holds-returns-in-Truth
 formulas::end_holds-returns-in-Truth t c =
@@ -535,8 +538,9 @@ formulas::end_has-returns-in-Held t c =
     let st = c.args.start.now in
     let s = schema_in st in
     makes_same _ _ _ _ _
-    (ap (λ k. atom c.args.sign (tree.has k (term_data c.in-Held.t.now) (term_data c.args.u.now))) c.relation_of.ensures ∙ ap (λ (x : End). end_has s (term_data c.args.u.now) c.args.sign c.args.above (end_data st x)) (sym c.in-Held.is))
-    c.has.ensures
+    (ap (λ (x : End). end_has s (term_data c.args.u.now) c.args.sign c.args.above (end_data st x)) (sym c.in-Held.is))
+    (made_for (λ k. atom c.args.sign (tree.has k (term_data c.in-Held.t.now) (term_data c.args.u.now))) _ _ _ _ _
+    (size-has c.args.sign _ _ (term_data c.in-Held.t.now) (term_data c.args.u.now)) c.relation_for.ensures c.has.ensures)
 
 pub formulas::end_has-returns-in-Among : goal.formulas::end_has-returns-in-Among
 formulas::end_has-returns-in-Among t c =
