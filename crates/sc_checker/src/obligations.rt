@@ -16,6 +16,7 @@ ghost use Rattle.sc_numbering.specs.Numbers.{numbers_of};
 ghost use Rattle.sc_verdict.specs.FailsBy.{FailsBy};
 ghost use Rattle.sc_verdict.specs.Outcomes as spec;
 ghost use Rattle.sc_checker.specs.Views.{outcome_data};
+ghost use Rattle.sc_data_text.specs.Told.{IsInOrder};
 ghost use Rattle.sc_witness_text.specs.Views.{witness_data};
 
 use crate::formulas::Formulas;
@@ -104,7 +105,8 @@ fn found_witness(
     requires listed { Contains (obligations_of (script_of t.now)) duty }
     requires found { SatisfiesWith signature.now
         (normal_form (formula_of (script_of t.now) duty)) structure.now picks.now }
-    ensures { IfOk result (λ w. FailsBy (script_of t.now) duty (witness_data w)) }
+    ensures fails { IfOk result (λ w. FailsBy (script_of t.now) duty (witness_data w)) }
+    ensures tables { IfOk result (λ w. IsInOrder (script_of t.now).start (witness_data w).base) }
 {
     has_ids(structure.sizes.as_slice());
     let w = witness_of(alloc, t, duty, structure, picks)?;

@@ -4,19 +4,23 @@ use Rattle.std.specs.Prelude.{⊤, Option, Some, None, IfSome, MatchOption, Resu
 use Rattle.sc_flow.specs.Files.{Files}
 use Rattle.sc_flow.specs.Told.{Appends}
 use Rattle.sc_schema.specs.declared.rights.Right.{Right}
+use Rattle.sc_schema.specs.declared.rights.Right.TheVariants.{Read}
 use Rattle.sc_schema.specs.declared.rights.Target.{Target}
 use Rattle.sc_schema.specs.Script.{Script, IsScript}
 use Rattle.sc_schema.specs.SchemaViews.{script_of}
 use Rattle.sc_checker.specs.Views.{outcome_data}
 use Rattle.sc_duty.specs.declared.duty.Duty.{Duty}
 use Rattle.sc_duty.specs.Flows.{cell_of}
+use Rattle.sc_duty.specs.Gains.{IsGainDuty}
+use Rattle.sc_duty.specs.Listed.{IsUseDuty}
+use Rattle.sc_duty.proofs.Listed.{from-list}
 use Rattle.sc_eval.specs.declared.cells.Cell.{Cell}
 use Rattle.sc_eval.specs.Gain.{GainAt, AddsAt, FlowAt}
 use Rattle.sc_eval.specs.Secure.{IsStepSecure}
 use Rattle.sc_verdict.specs.FailsBy.{FailsBy, IsGainOf, IsLeakOf}
 use Rattle.sc_verdict.specs.Outcomes.{Outcome, accepted, leak, undecided, too_large, IsOutcome}
 use Rattle.sc_verdict.specs.Sound.{IsDecidable, IsSettled, Accepted, Leak}
-use Rattle.sc_verdict.proofs.Sound.{accepted_are_secure, leaks_are_real, decidable_are_settled}
+use Rattle.sc_verdict.proofs.Sound.{accepted_are_secure, leaks_are_real, due-listed, decidable_are_settled}
 use Rattle.sc_witness.specs.Witness.{Witness}
 use Rattle.sc_run.specs.declared.answer.Answer.{Answer}
 use Rattle.sc_run.specs.declared.answer.Answer.TheVariants as answer
@@ -43,8 +47,8 @@ gain-real t duty w command target right h =
     (subst (λ (on : Target). GainAt t duty.command on w.right w.base w.row w.who) (sym target)
     (subst (λ (r : Right). GainAt t duty.command duty.target r w.base w.row w.who) (sym right) h.gain)))
 
-flow-real : (t : Script) (duty : Duty) (w : Witness) (spot : ℕ) → w.command ≡ duty.command → w.target ≡ duty.target → IsLeakOf t duty w spot → IsReal t w
-flow-real t duty w spot command target h =
+flow-real : (t : Script) (duty : Duty) (w : Witness) (spot : ℕ) → w.command ≡ duty.command → w.target ≡ duty.target → w.right ≡ Read → IsLeakOf t duty w spot → IsReal t w
+flow-real t duty w spot command target right h =
     subst (λ (cell : Option Cell). MatchOption cell (GainAt t w.command w.target w.right w.base w.row w.who) (LeaksCell t w)) (sym h.cell)
     (record {
       flow = subst (λ (k : ℕ). FlowAt t k w.base w.row w.who (cell_of h.at h.source)) (sym command) h.flow;
@@ -53,17 +57,18 @@ flow-real t duty w spot command target h =
       init = h.init;
       adds = subst (λ (k : ℕ). AddsAt t k h.model h.field h.init) (sym command) h.duty_is.adds;
       target = target ∙ h.duty_is.target;
+      right = right;
     })
 
 fails-real : (t : Script) (duty : Duty) (w : Witness) (spot : Option ℕ) → w.command ≡ duty.command → w.target ≡ duty.target → w.right ≡ duty.right
-    → MatchOption spot (IsGainOf t duty w) (IsLeakOf t duty w) → IsReal t w
-fails-real t duty w None command target right h = gain-real t duty w command target right h
-fails-real t duty w (Some spot) command target right h = flow-real t duty w spot command target h
+    → MatchOption spot (IsGainDuty t duty) (IsUseDuty t duty) → MatchOption spot (IsGainOf t duty w) (IsLeakOf t duty w) → IsReal t w
+fails-real t duty w None command target right of h = gain-real t duty w command target right h
+fails-real t duty w (Some spot) command target right of h = flow-real t duty w spot command target (right ∙ of.right) h
 
-leak-real : (t : Script) (w : Witness) → IsOutcome t (leak w) → IsReal t w
-leak-real t w h =
+leak-real : (t : Script) → IsScript t → (w : Witness) → IsOutcome t (leak w) → IsReal t w
+leak-real t is w h =
     let by = h.over.unsettled.fails in
-    fails-real t h.over.duty w h.over.duty.spot by.command by.target by.right by.fails
+    fails-real t h.over.duty w h.over.duty.spot by.command by.target by.right (from-list t is h.over.duty (due-listed t h.signature h.over.duty h.over.due)) by.fails
 
 -- ---- settled outcomes
 
@@ -107,7 +112,7 @@ module _ (told : Option Files) (names : Names) (before after : Option (List ℕ)
   }
   checked t asked typed (leak w) h e put = record {
     secure = λ d. absurd (let no : exit.Leak ≡ exit.Done = sym e ∙ d in cc);
-    leak = λ _. (t, asked, record { witness = w; real = leak-real t w h; shown = put });
+    leak = λ _. (t, asked, record { witness = w; tables = h.over.unsettled.tables; real = leak-real t typed w h; shown = put });
     decided =
         if-some told _ (λ files is u other decidable.
         Leaks e (subst (λ (z : Script). IsStepSecure z → ⊥) (one-script t u files is asked other) (leaks_are_real t w h)));

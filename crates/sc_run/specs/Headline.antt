@@ -3,9 +3,11 @@ use Rattle.std.specs.Prelude.{◌≡◌, ◌⊎◌, ℕ, List, Option, Some, IfS
 use Rattle.sc_flow.specs.Files.{Files}
 use Rattle.sc_flow.specs.Told.{Appends}
 use Rattle.sc_schema.specs.Script.{Script}
+use Rattle.sc_schema.specs.declared.rights.Right.TheVariants.{Read}
 use Rattle.sc_schema.specs.declared.rights.Target.TheVariants as on
 use Rattle.sc_schema.specs.Schema.{FieldInfo}
 use Rattle.sc_schema.specs.Trees.{Init}
+use Rattle.sc_data_text.specs.Told.{IsInOrder}
 use Rattle.sc_eval.specs.declared.cells.Cell.{Cell}
 use Rattle.sc_eval.specs.Gain.{GainAt, AddsAt, FlowAt}
 use Rattle.sc_eval.specs.Secure.{IsSecure, IsStepSecure}
@@ -17,8 +19,8 @@ use Rattle.sc_run.specs.declared.status.Status.TheVariants.{Done, Leak, ReadFaul
 use Rattle.sc_run.specs.Answer.{Asks}
 use Rattle.sc_run.specs.Words.{Names}
 
--- On its start database the principal of the witness reads the cell through the field that the command adds, which is the target of the
--- witness.
+-- On its start database the principal of the witness reads the cell through the field that the command adds: to read this field is the
+-- right of the witness on its target.
 pub record LeaksCell (t : Script) (w : Witness) (cell : Cell) : Type 0 where
   pub flow : FlowAt t w.command w.base w.row w.who cell
   pub model : ℕ
@@ -26,14 +28,17 @@ pub record LeaksCell (t : Script) (w : Witness) (cell : Cell) : Type 0 where
   pub init : Init
   pub adds : AddsAt t w.command model field init
   pub target : w.target ≡ on.Field model field.number
+  pub right : w.right ≡ Read
 
 -- The witness is real: on its start database its principal gains the right on its record by its command, or the cell leaks there.
 abbrev pub IsReal : Script → Witness → Type 0
 IsReal t w = MatchOption w.cell (GainAt t w.command w.target w.right w.base w.row w.who) (LeaksCell t w)
 
--- What was put out is the text of a real witness.
+-- What was put out is the text of a real witness. The tables of its database are those of the models in their order, so the text tells the
+-- witness.
 pub record ShowsLeak (t : Script) (before after : Option (List ℕ)) : Type 0 where
   pub witness : Witness
+  pub tables : IsInOrder t.start witness.base
   pub real : IsReal t witness
   pub shown : Appends before after (witness_text t witness)
 

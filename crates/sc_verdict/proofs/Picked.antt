@@ -1,6 +1,6 @@
 -- The witness of the elements at which a structure satisfies the formula of an obligation.
 use Rattle.std.proofs.Common.{◌≡◌, ℕ, zero, suc, ◌+◌, ◌-◌, ◌<◌, true, false, List, [], ◌∷◌, refl, ap, sym, ◌∙◌, subst, arith}
-use Rattle.std.specs.Prelude.{Option, Some, None, slice_get, option_and_then, Contains, MatchOption}
+use Rattle.std.specs.Prelude.{Option, Some, None, slice_get, option_and_then, Contains, MatchOption, map}
 use Rattle.std.specs.List.{range_with_len}
 use Rattle.std.specs.Option.{option_map, option_map_or}
 use Rattle.sc_schema.specs.declared.rights.Kind.{Kind}
@@ -8,11 +8,12 @@ use Rattle.sc_schema.specs.declared.rights.Kind.TheVariants as kind
 use Rattle.sc_schema.specs.declared.rights.Right.TheVariants.{Read}
 use Rattle.sc_schema.specs.declared.rights.Target.TheVariants as on
 use Rattle.sc_schema.specs.Trees.{Init}
-use Rattle.sc_schema.specs.Schema.{FieldInfo, model_of_target}
+use Rattle.sc_schema.specs.Proper.{model_numbers}
+use Rattle.sc_schema.specs.Schema.{FieldInfo, ModelInfo, Schema, model_of_target}
 use Rattle.sc_schema.specs.Uses.{Use}
 use Rattle.sc_schema.specs.Script.{Script, IsScript}
 use Rattle.sc_schema.specs.Kinds.{is_kind_at}
-use Rattle.sc_data.specs.Database.{Database, ids_of}
+use Rattle.sc_data.specs.Database.{Table, Database, ids_of}
 use Rattle.sc_eval.specs.declared.cells.Cell.{Cell}
 use Rattle.sc_eval.specs.Run.{run_to}
 use Rattle.sc_eval.specs.Gain.{IsStart, kind_of, GainAt, FlowAt}
@@ -37,7 +38,8 @@ use Rattle.sc_duty.proofs.Flows.{the-formula, static-leaks, record-leaks}
 use Rattle.sc_duty.specs.Listed.{IsUseDuty}
 use Rattle.sc_duty.proofs.Listed.{obligations-listed}
 use Rattle.sc_witness.specs.Back.{HasIds, IsBuildable}
-use Rattle.sc_witness.specs.Built.{built}
+use Rattle.sc_data_text.specs.Told.{IsInOrder}
+use Rattle.sc_witness.specs.Built.{built, built_table}
 use Rattle.sc_witness.proofs.Databases.{start}
 use Rattle.sc_witness.proofs.Looked.{ids-built}
 use Rattle.sc_witness.proofs.Scripts.{buildable}
@@ -194,3 +196,13 @@ module _ (t : Script) (is : IsScript t) (g : Signature) (of_start : IsSignatureO
 
 pub picked : PickedWitnessesFail
 picked t is g of_start duty listed st picks has h = by-picks t is g of_start st (buildable t is g of_start st h.structure) has duty listed picks h
+
+-- ---- tables
+
+tables : (s : Schema) (st : Structure) (models : List ModelInfo) → map (λ (table : Table). table.model) (map (built_table s st) models) ≡ model_numbers models
+tables s st [] = refl
+tables s st (m ∷ models) = ap (λ ns. m.number ∷ ns) (tables s st models)
+
+-- the tables of the database of a structure are those of the models in their order
+pub picked-in-order : (t : Script) (duty : Duty) (st : Structure) (picks : List ℕ) → IsInOrder t.start (picked_witness t duty st picks).base
+picked-in-order t duty st picks = tables t.start st t.start.models

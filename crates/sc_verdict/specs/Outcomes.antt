@@ -10,6 +10,7 @@ use Rattle.sc_decide.specs.Verdicts.{IsOverLimit, IsSafe, IsUnknown, IsTooLargeB
 use Rattle.sc_duty.specs.declared.duty.Duty.{Duty}
 use Rattle.sc_duty.specs.Duties.{obligations_of, formula_of}
 use Rattle.sc_duty.specs.Over.{IsSignatureOf}
+use Rattle.sc_data_text.specs.Told.{IsInOrder}
 use Rattle.sc_witness.specs.Witness.{Witness}
 use Rattle.sc_verdict.specs.FailsBy.{FailsBy}
 
@@ -52,8 +53,10 @@ module _ (t : Script) where
 
     -- ---- what an obligation comes to that is not cleared
 
+    -- its database has the tables of the models in their order, as a text tells them
     pub record IsLeak (duty : Duty) (w : Witness) : Type 0 where
       pub fails : FailsBy t duty w
+      pub tables : IsInOrder t.start w.base
       pub within : HasStrata duty → IsWithinLimits duty
 
     pub record IsUndecided (duty of_duty : Duty) (cycle : List ℕ) : Type 0 where
