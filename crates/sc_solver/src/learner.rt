@@ -34,7 +34,7 @@ use std::alloc::{AllocError, Global};
 use std::marker::Model;
 
 /// For how many learned clauses there is room for each variable.
-const LEARNED_EACH: usize = 32;
+const LEARNED_EACH: usize = 8;
 
 /// For how many there is room for all variables at most.
 const USUAL_LEARNED: usize = 16_384;
