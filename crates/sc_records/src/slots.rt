@@ -44,6 +44,7 @@ fn renumber_slots(slots: &mut [Slot], models: &[ModelInfo], m: ModelNo)
 }
 
 impl Slots {
+    /// A list of no values. It takes no memory.
     pub fn new(alloc: Global) -> Slots
         ensures { result ≡ [] }
     {
@@ -52,12 +53,14 @@ impl Slots {
         }
     }
 
+    /// These values, in their order.
     pub fn from_vec(items: Vec<Slot>) -> Slots
         ensures { result ≡ items.items }
     {
         Slots { items }
     }
 
+    /// The values, one for each field of the model, in the order of its fields.
     pub fn as_slice(&self) -> &[Slot]
         ensures { result.now ≡ self.now }
     {
