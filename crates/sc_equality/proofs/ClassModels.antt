@@ -23,6 +23,10 @@ together_from cs a b a_in b_in e =
     (and_from (ltb a (length cs)) (ltb b (length cs)) (lt-ltb a (length cs) a_in) (lt-ltb b (length cs) b_in))
     (eq-eqb (get_or cs a 0) (get_or cs b 0) e)
 
+-- of terms that the column has, it is whether they have one number
+pub together_by : (cs : List ℕ) (a b : ℕ) → a < length cs → b < length cs → are_together cs a b ≡ eqb (get_or cs a 0) (get_or cs b 0)
+together_by cs a b a_in b_in = rw (lt-ltb a (length cs) a_in, lt-ltb b (length cs) b_in) refl
+
 pub same_from_together : (cs : List ℕ) (a b : ℕ) → are_together cs a b ≡ true → get_or cs a 0 ≡ get_or cs b 0
 same_from_together cs a b e =
     eqb-true (get_or cs a 0) (get_or cs b 0) (and_parts (ltb a (length cs) && ltb b (length cs)) (eqb (get_or cs a 0) (get_or cs b 0)) e).1

@@ -1,7 +1,7 @@
 //! The decision procedure for equality of terms.
 ghost use Rattle.std.specs.Prelude.{◌≡◌, ◌≢◌, ◌-◌, ◌<◌, ◌↔◌, ◌^◌, [], ◌∷◌, ◌++◌, length, take, All};
 ghost use Rattle.std.specs.Prelude.{AllPairs, IsTrue, IfOk};
-ghost use Rattle.sc_procedure.specs.Models.{HasModel};
+ghost use Rattle.sc_procedure.specs.Models.{HasModel, HasModelSaying};
 
 use crate::clash::find_clash;
 use crate::edges::Edges;
@@ -157,6 +157,18 @@ impl Equality {
         false
     }
 
+    /// Whether the terms have one class.
+    fn are_one(&self, left: u32, right: u32) -> bool
+        requires has_model { HasModel
+            (is_classes self.now.terms self.now.fixed) meets_literal self.now.literals }
+        requires left_in { left < self.now.terms }
+        requires right_in { right < self.now.terms }
+        ensures { HasModelSaying (is_classes self.now.terms self.now.fixed) meets_literal
+            self.now.literals (Same left right) result }
+    {
+        self.parts.class_of(left) == self.parts.class_of(right)
+    }
+
     /// Takes the last literal back.
     fn undo_one(&mut self)
         requires { 0 < length self.old.literals }
@@ -230,6 +242,13 @@ impl Theory for Equality {
     fn model(&self) -> Result<Items<u32>, AllocError> {
         let classes = Items::from_slice(self.alloc, self.parts.classes())?;
         Ok(classes)
+    }
+
+    fn is_met(&self, l: EqualityLit) -> bool {
+        match l {
+            EqualityLit::Same(left, right) => self.are_one(left, right),
+            EqualityLit::Differ(left, right) => !self.are_one(left, right),
+        }
     }
 
     ghost empty_has_model = { λ e. empty_has_classes e.terms e.fixed };

@@ -7,6 +7,7 @@ use crate::diff::Diff;
 use crate::edges::Edges;
 use crate::frontier::Frontier;
 use crate::repair::repair;
+use crate::search::is_met_by;
 use sc_procedure::{LitBuf, Theory};
 use sqlite_items::Items;
 use std::alloc::{AllocError, Global};
@@ -128,6 +129,10 @@ impl Theory for Order {
 
     fn model(&self) -> Result<Items<i64>, AllocError> {
         Items::from_slice(self.alloc, self.values.as_slice())
+    }
+
+    fn is_met(&self, l: Diff) -> bool {
+        is_met_by(self.values.as_slice(), l)
     }
 
     ghost empty_has_model = { λ o. zero_is_model o.variables };

@@ -2,7 +2,7 @@
 ghost use Rattle.std.specs.Prelude.{◌≡◌, ◌≢◌, ◌+◌, ◌-◌, ◌^◌, ◌<◌, ◌≤◌, length, pos, neg_ℤ, ◌+ℤ◌};
 ghost use Rattle.std.specs.Prelude.{◌-ℤ◌, ◌≤ℤ◌, ◌<ℤ◌, IsTrue, IfSome, IfNone, replicate};
 ghost use Rattle.std.specs.Bool.{OnTrue, OnFalse};
-ghost use Rattle.sc_order.specs.Difference.{value_of, is_literal};
+ghost use Rattle.sc_order.specs.Difference.{value_of, is_literal, meets};
 ghost use Rattle.sc_order.specs.Edges.{literal_at};
 ghost use Rattle.sc_order.specs.Reach.{unreached, reach_of};
 ghost use Rattle.sc_order.specs.Potential.{Meets};
@@ -42,6 +42,14 @@ pub fn excess(values: &[i64], literal: Diff) -> i128
     let x = value_at(values, literal.x);
     let y = value_at(values, literal.y);
     x - (y + literal.c)
+}
+
+/// Whether values meet a literal.
+pub fn is_met_by(values: &[i64], literal: Diff) -> bool
+    requires { IsTrue (is_literal (length values.now) literal) }
+    ensures { result ≡ meets values.now literal }
+{
+    excess(values, literal) <= 0
 }
 
 /// By how much the end of an edge has to be lowered, since its start is.

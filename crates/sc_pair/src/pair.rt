@@ -184,6 +184,13 @@ impl<A: Theory, B: Theory> Theory for Pair<A, B> {
         Ok((left, right))
     }
 
+    fn is_met(&self, l: PairLit<A::Lit, B::Lit>) -> bool {
+        match l {
+            PairLit::Left(literal) => self.left.is_met(literal),
+            PairLit::Right(literal) => self.right.is_met(literal),
+        }
+    }
+
     ghost use Rattle.sc_pair.specs.PairLaw.{empty_has_pair};
 
     ghost empty_has_model = { λ p. empty_has_pair (A.empty_has_model p.left)

@@ -1,7 +1,7 @@
 //! The trait that each decision procedure meets.
 ghost use Rattle.std.specs.Prelude.{◌≡◌, ℕ, ◌-◌, ◌<◌, ◌≤◌, ◌↔◌, Bool, List, [], ◌∷◌, ◌++◌, length};
 ghost use Rattle.std.specs.Prelude.{take, IsTrue, IfOk};
-ghost use Rattle.sc_procedure.specs.Models.{IsModelOf, HasModel, IsCore};
+ghost use Rattle.sc_procedure.specs.Models.{IsModelOf, HasModel, HasModelSaying, IsCore};
 
 use crate::lit_buf::LitBuf;
 use std::alloc::AllocError;
@@ -75,6 +75,13 @@ pub trait Theory {
     fn model(&self) -> Result<Self::Model, AllocError>
         requires { HasModel (models self.now) meets (literals self.now) }
         ensures { IfOk result (IsModelOf (models self.now) meets (literals self.now)) };
+
+    /// Whether some model of the asserted literals meets `l`, or some model does not: what the model
+    /// says that the theory has at hand. Where it is met, `assert` of it finds a model.
+    fn is_met(&self, l: Self::Lit) -> bool
+        requires has_model { HasModel (models self.now) meets (literals self.now) }
+        requires taken { IsTrue (takes self.now l) }
+        ensures { HasModelSaying (models self.now) meets (literals self.now) l result };
 
     // A theory with nothing asserted has a model.
     ghost empty_has_model: { (s : Self) → HasModel (models s) meets [] };

@@ -37,6 +37,16 @@ pub(crate) struct Reader<'a> {
     pub(crate) texts: &'a [Txt],
 }
 
+/// Whether a number is found in a list without reading it whole; each is that is in one that rises.
+fn is_found(ids: &Vec<u32>, id: u32) -> bool
+    ensures { result ≡ true → Contains ids.now.items id }
+{
+    match ids.as_slice().binary_search(&id) {
+        Ok(place) => ids.get(place) == Some(&id),
+        Err(_) => false,
+    }
+}
+
 /// Whether a number is in a list.
 fn is_in(ids: &Vec<u32>, id: u32) -> bool
     ensures { result ≡ true → Contains ids.now.items id }
@@ -44,11 +54,26 @@ fn is_in(ids: &Vec<u32>, id: u32) -> bool
     ids.contains(&id)
 }
 
+/// Whether a number is found as that of a term of which a table tells.
+fn is_listed_in_order(words: &Words, id: u32) -> bool
+    ensures { result ≡ true → Contains (words.now.named.items ++ words.now.others.items) id }
+{
+    is_found(&words.named, id) || is_found(&words.others, id)
+}
+
 /// Whether a number is that of a term of which a table tells.
-fn is_listed(words: &Words, id: u32) -> bool
+fn is_listed_anywhere(words: &Words, id: u32) -> bool
     ensures { result ≡ true → Contains (words.now.named.items ++ words.now.others.items) id }
 {
     is_in(&words.named, id) || is_in(&words.others, id)
+}
+
+/// Whether a number is that of a term of which a table tells. The numbers stand in their order, so that
+/// they are found at once; the lists are read whole for one that is not.
+fn is_listed(words: &Words, id: u32) -> bool
+    ensures { result ≡ true → Contains (words.now.named.items ++ words.now.others.items) id }
+{
+    is_listed_in_order(words, id) || is_listed_anywhere(words, id)
 }
 
 /// Whether two texts are one.

@@ -1,5 +1,6 @@
-ghost use Rattle.std.specs.Prelude.{◌≡◌, ◌↔◌, ◌<◌, ◌≤◌, ◌∷◌, ◌++◌, [], None, Some, length, reverse, All, vec_len, IfOk, IfSome, IsSomeAnd, IsTrue, OnOk, OnErr, MatchOption, slice_get, slice_set, false};
+ghost use Rattle.std.specs.Prelude.{◌≡◌, ◌↔◌, ◌<◌, ◌≤◌, ◌∷◌, ◌++◌, [], None, Some, length, reverse, All, vec_len, IfOk, IfSome, IsSomeAnd, IsTrue, OnOk, OnErr, MatchOption, slice_get, slice_index_or, slice_set, false};
 ghost use Rattle.std.specs.Bool.{OnTrue, OnFalse};
+ghost use Rattle.sc_procedure.specs.Models.{HasModelSaying};
 ghost use Rattle.sc_solver.specs.Assignment.{negated};
 ghost use Rattle.sc_solver.specs.Clauses.{IsWithin};
 ghost use Rattle.sc_solver.specs.Marks.{ForcesMarked, HasMarks, IsEntailed, IsBackedMarked, IsMarkedBut, IsMarkedBy, collected};
@@ -133,6 +134,26 @@ impl<T: Theory> Context<T> {
         ensures is_trail { IsTrail self.now.vars self.now.entries }
     {
         &self.trail
+    }
+
+    /// The literal of the same variable that the model which the theory has at hand makes true, where
+    /// the variable has literals of the theory: deciding it is refused by no theory whose two literals
+    /// of the variable deny each other.
+    pub fn inclined(&self, literal: PLit) -> PLit
+        requires { literal.var < self.now.vars }
+        ensures var { result.var ≡ literal.var }
+        ensures says { IfSome (slice_index_or self.now.atoms literal.var None) (λ atom.
+            HasModelSaying (T.models self.now.theory) T.meets (T.literals self.now.theory) atom.0
+            result.plus) }
+        ensures plain { slice_index_or self.now.atoms literal.var None ≡ None → result ≡ literal }
+    {
+        match self.atoms[literal.var as usize] {
+            Some((when_true, _)) => PLit {
+                var: literal.var,
+                plus: self.theory.is_met(when_true),
+            },
+            None => literal,
+        }
     }
 
     /// How many literals that are set were decided.

@@ -241,7 +241,10 @@ impl<T: Theory> Learner<T> {
             }
             ClauseState::UnitLiteral(literal) => self.follow(literal, step.reason),
             ClauseState::Open => match self.preferences.choose(self.state.trail()) {
-                Some(literal) => self.decide(literal),
+                Some(literal) => {
+                    let literal = self.state.inclined(literal);
+                    self.decide(literal)
+                }
                 None => self.finish(),
             },
         }
