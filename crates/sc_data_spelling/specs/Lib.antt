@@ -1,0 +1,4 @@
+pub mod Printable
+pub mod Public
+pub mod Spelled
+pub mod Words

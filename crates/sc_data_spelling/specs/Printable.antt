@@ -1,0 +1,13 @@
+-- Databases whose printed text is read as them.
+use Rattle.sc_schema.specs.Schema.{Schema}
+use Rattle.sc_schema.specs.Proper.{IsProper}
+use Rattle.sc_data.specs.Database.{Database, IsDatabase}
+use Rattle.sc_data_text.specs.Told.{IsInOrder}
+use Rattle.sc_data_spelling.specs.Words.{HasWords}
+
+-- a database over a proper schema whose names are words, with the tables of its models in their order and no further ones
+pub record IsPrintable (s : Schema) (d : Database) : Type 0 where
+  pub proper : IsProper s
+  pub words : HasWords s
+  pub database : IsDatabase s d
+  pub order : IsInOrder s d
