@@ -1,0 +1,5 @@
+//! Random formulas, decided, beside a search of all small structures.
+#![tactic(auto)]
+
+#[cfg(test)]
+mod tests;
