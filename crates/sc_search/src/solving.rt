@@ -143,14 +143,15 @@ pub(crate) struct Ground<'a> {
 }
 
 /// Whether a fact is tried as true first: that a sort has no element, since the less there is, the
-/// better it is read, and that a value is itself, which no model denies.
+/// better it is read.
 fn is_tried_first(fact: FactNode) -> bool {
     match fact {
         FactNode::Empty(_) => true,
-        FactNode::Same(v, u) => v == u,
-        FactNode::Below(..) | FactNode::There(_) | FactNode::Raised(_) | FactNode::Related(_) => {
-            false
-        }
+        FactNode::Same(..)
+        | FactNode::Below(..)
+        | FactNode::There(_)
+        | FactNode::Raised(_)
+        | FactNode::Related(_) => false,
     }
 }
 

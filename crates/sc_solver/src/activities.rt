@@ -1,3 +1,5 @@
+//! Which learned clauses had part in late conflicts.
+
 use std::alloc::{AllocError, Global};
 
 /// By how much an activity is bumped at first.

@@ -1,3 +1,5 @@
+//! How many learned clauses are kept.
+
 /// How many learned clauses are kept at least.
 const FEWEST: usize = 100;
 

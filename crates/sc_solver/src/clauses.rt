@@ -1,3 +1,5 @@
+//! Clauses in one flat list.
+
 ghost use Rattle.std.specs.Option.{option_map};
 ghost use Rattle.sc_solver.specs.Clauses.{HasRoom};
 ghost use Rattle.std.specs.Prelude.{◌≡◌, ◌↔◌, ◌<◌, ◌≤◌, ◌+◌, IsTrue, [], ◌∷◌, ◌++◌, length, IfOk, OnOk, OnErr, Some, slice_get, map};

@@ -1,3 +1,5 @@
+//! The clauses, the theory and the trail in step.
+
 ghost use Rattle.std.specs.Prelude.{◌≡◌, ◌↔◌, ◌<◌, ◌≤◌, ◌∷◌, ◌++◌, [], None, Some, length, reverse, All, vec_len, IfOk, IfSome, IsSomeAnd, IsTrue, OnOk, OnErr, MatchOption, slice_get, slice_index_or, slice_set, false};
 ghost use Rattle.std.specs.Bool.{OnTrue, OnFalse};
 ghost use Rattle.sc_procedure.specs.Models.{HasModelSaying};

@@ -1,3 +1,5 @@
+//! Variables by their scores.
+
 ghost use Rattle.std.specs.Prelude.{◌≡◌, ◌<◌, length, All, IfOk, IfSome};
 
 use std::alloc::{AllocError, Global};

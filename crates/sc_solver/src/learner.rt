@@ -1,3 +1,5 @@
+//! The steps of a search.
+
 ghost use Rattle.std.specs.Prelude.{◌≡◌, ◌≢◌, ℕ, ◌<◌, ◌≤◌, ◌∷◌, ◌++◌, ◌⊎◌, [], None, length, All, vec_len, IfOk, OnOk, OnErr, replicate, slice_set, false};
 ghost use Rattle.std.specs.Bool.{OnTrue, OnFalse};
 ghost use Rattle.sc_solver.specs.Assignment.{negated};

@@ -1,3 +1,5 @@
+//! A variable with a sign.
+
 ghost use Rattle.std.specs.Prelude.{◌≡◌, ◌↔◌, IsTrue};
 ghost use Rattle.sc_solver.specs.Assignment.{negated, signed};
 

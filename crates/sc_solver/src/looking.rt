@@ -1,3 +1,5 @@
+//! A look at a clause that watches what became false.
+
 ghost use Rattle.std.specs.Prelude.{◌<◌, Some, IfSome};
 ghost use Rattle.sc_solver.specs.Clauses.{IsWithin};
 ghost use Rattle.sc_solver.specs.Watches.{IsLookAt};

@@ -1,3 +1,5 @@
+//! Which literals of the trail a conflict comes from.
+
 ghost use Rattle.std.specs.Prelude.{◌≡◌, ◌↔◌, ◌<◌, ◌≤◌, ◌++◌, length, reverse, IsTrue, All, vec_len, vec_capacity, slice_set, false, Some};
 ghost use Rattle.std.specs.Option.{option_map, option_to_list};
 ghost use Rattle.sc_solver.specs.Assignment.{value_at};

@@ -1,3 +1,5 @@
+//! Which variable is decided next, and how.
+
 ghost use Rattle.std.specs.Prelude.{◌≡◌, ◌≢◌, ◌↔◌, ℕ, ◌<◌, ◌≤◌, None, IsTrue, IfOk, IfSome, MatchOption, false, length, replicate, slice_index, slice_index_or, slice_set};
 ghost use Rattle.sc_solver.specs.Clauses.{IsWithin};
 ghost use Rattle.sc_solver.specs.Preferences.{noted, bumped, bumped_all, scaled_down, decayed};
@@ -19,7 +21,8 @@ const LARGEST_STEP: u64 = 1 << 48;
 const SCALE: u64 = 1 << 32;
 
 /// Which variable is decided next, and how: the one that had most part in the latest conflicts, to
-/// the value that it had last (Moskewicz et al., "Chaff", 2001; Pipatsrisawat and Darwiche, 2007).
+/// the value that it had last (Moskewicz et al., "Chaff", 2001; Pipatsrisawat and Darwiche, 2007),
+/// if it is no atom: the theory says how those are decided.
 /// Contracts see the score of each variable, from 0 to `u64::MAX`, the value that it had last, and the
 /// step by which a score is bumped.
 #[derive(Drop)]

@@ -1,3 +1,5 @@
+//! Where a search stands.
+
 /// Where a search stands.
 #[derive(Clone, Copy)]
 pub enum Progress {

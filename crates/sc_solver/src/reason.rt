@@ -1,3 +1,5 @@
+//! The clause by which a literal was set.
+
 /// The clause by which a literal was set. It is a hint: what it shows is tried where it is used.
 #[derive(Clone, Copy)]
 pub enum Reason {

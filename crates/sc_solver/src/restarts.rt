@@ -1,3 +1,5 @@
+//! When a search begins anew.
+
 ghost use Rattle.std.specs.Prelude.{◌≡◌, ◌<◌, ◌+◌, IsTrue};
 
 use std::marker::Model;

@@ -1,3 +1,5 @@
+//! Pushes for which memory is there.
+
 ghost use Rattle.std.specs.Prelude.{◌≡◌, ◌+◌, ◌<◌, ◌≤◌, [], ◌∷◌, ◌++◌, length, vec_len, vec_capacity};
 
 /// Puts an item at the end of a list that has room for it, and so takes no memory.

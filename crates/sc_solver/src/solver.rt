@@ -1,3 +1,5 @@
+//! What callers see of a search.
+
 ghost use Rattle.std.specs.Prelude.{◌≡◌, ◌↔◌, ◌<◌, ◌≤◌, ◌+◌, ◌++◌, ◌∷◌, [], Bool, List, None, length, map, All, vec_len, IfOk, OnOk, OnErr, IfSome, IsSome, Some, replicate, slice_set};
 ghost use Rattle.sc_procedure.specs.Models.{HasModel};
 ghost use Rattle.sc_solver.specs.Assignment.{literal_value, theory_literals, SameLiterals};
@@ -132,8 +134,9 @@ impl<T: Theory> Solver<T> {
         Ok(())
     }
 
-    /// Lets a search try a variable with this value first, until it has another. Which assignment is
-    /// found may depend on it, and not whether one is.
+    /// Lets a search try a variable that is no atom with this value first, until it has another; an
+    /// atom is tried as the theory's model has it. Which assignment is found may depend on it, and not
+    /// whether one is.
     pub fn prefer(&mut self, literal: PLit)
         requires { literal.var < self.old.vars }
         ensures { self.new ≡ self.old }

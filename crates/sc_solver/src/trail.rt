@@ -1,3 +1,5 @@
+//! The literals that are true so far, and which of them were decided.
+
 ghost use Rattle.std.specs.Prelude.{◌≡◌, ◌↔◌, ◌<◌, IsTrue, [], ◌∷◌, None, Some, true, length, reverse, IfOk, MatchOption};
 ghost use Rattle.sc_solver.specs.Marks.{IsFreeLevel};
 ghost use Rattle.sc_solver.specs.Trail.{value_in, literal_in};

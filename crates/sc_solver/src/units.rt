@@ -1,3 +1,5 @@
+//! The scan of all clauses for one that is in conflict or a unit.
+
 ghost use Rattle.std.specs.Prelude.{◌≡◌, ◌<◌, ◌≤◌, length, All};
 ghost use Rattle.sc_solver.specs.Clauses.{IsWithin};
 ghost use Rattle.sc_solver.specs.Units.{IsStateOf, IsFoundIn, IsFoundWithin};

@@ -1,3 +1,5 @@
+//! Which clauses are looked at where a literal becomes false.
+
 ghost use Rattle.std.specs.Prelude.{◌≡◌, ℕ, ◌<◌, ◌≤◌, ◌+◌, ◌*◌, ◌^◌, length, All, IfOk, IfSome, OnOk, OnErr, Some, None, if◌then◌else◌};
 ghost use Rattle.sc_solver.specs.Clauses.{IsWithin};
 ghost use Rattle.sc_solver.specs.Learned.{learned_list};

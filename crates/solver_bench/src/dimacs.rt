@@ -1,3 +1,5 @@
+//! The text of a formula, read.
+
 ghost use Rattle.std.specs.Prelude.{◌≡◌, ◌≤◌, length, IfOk, OnOk, vec_len};
 ghost use Rattle.solver_bench.specs.Formula.{IsFormula};
 

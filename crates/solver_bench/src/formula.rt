@@ -1,3 +1,5 @@
+//! A formula from the numbers of its text.
+
 ghost use Rattle.std.specs.Prelude.{◌≡◌, ◌<◌, ◌≤◌, ◌+◌, ◌++◌, ◌∷◌, [], map, length, All, IfOk, OnOk, IfErr, IfSome, IsSome, vec_len};
 ghost use Rattle.sc_solver.specs.declared.literal.PLit.{PLit};
 ghost use Rattle.sc_solver.specs.Clauses.{IsWithin};

@@ -1,3 +1,5 @@
+//! Why a text is no formula.
+
 ghost use Rattle.std.specs.Prelude.{◌≡◌};
 ghost use Rattle.solver_bench.specs.declared.refusal.Refusal.TheVariants.{OutOfMemory};
 

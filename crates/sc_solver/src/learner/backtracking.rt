@@ -1,3 +1,5 @@
+//! What is taken back after a conflict.
+
 ghost use Rattle.std.specs.Prelude.{◌≡◌, ◌↔◌, ◌<◌, ◌≤◌, ◌∷◌, [], None, length, IsTrue, MatchOption};
 ghost use Rattle.std.specs.Bool.{OnTrue, OnFalse};
 ghost use Rattle.sc_solver.specs.Dropping.{IsDropped, before_decision};

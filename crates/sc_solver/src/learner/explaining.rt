@@ -1,3 +1,5 @@
+//! What is learned from a conflict.
+
 ghost use Rattle.std.specs.Prelude.{◌≡◌, ◌<◌, ◌+◌, ◌⊎◌, length, List, Bool, IsTrue, MatchOption, replicate, reverse, slice_get, slice_set, true, false, Some};
 ghost use Rattle.std.specs.Bool.{OnTrue};
 ghost use Rattle.std.specs.Option.{IfSome};

@@ -1,3 +1,5 @@
+//! Which learned clauses are kept.
+
 ghost use Rattle.std.specs.Prelude.{◌≡◌, length, All};
 ghost use Rattle.std.specs.List.{Contains};
 ghost use Rattle.sc_solver.specs.Learned.{learned_list};

@@ -1,3 +1,5 @@
+//! What follows from the given clauses alone.
+
 ghost use Rattle.std.specs.Prelude.{◌≡◌, All};
 ghost use Rattle.sc_solver.specs.Assumed.{IsEnd, IsExtended};
 ghost use Rattle.sc_solver.specs.Clauses.{IsWithin};

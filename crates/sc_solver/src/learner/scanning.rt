@@ -1,3 +1,5 @@
+//! What a search meets next.
+
 ghost use Rattle.std.specs.Prelude.{◌≡◌};
 ghost use Rattle.sc_solver.specs.ContextView.{Lawful};
 ghost use Rattle.sc_solver.specs.LearnerView.{clause_by};

@@ -1,3 +1,5 @@
+//! Texts that are read and texts that are refused.
+
 use crate::dimacs::read;
 use crate::refusal::Refusal;
 use sc_solver::PLit;

@@ -1,3 +1,5 @@
+//! Solvers over both theories, and what they answer.
+
 ghost use Rattle.std.specs.Prelude.{◌≡◌, ◌<◌, ◌≤◌, ◌+◌, length, All, IfOk, OnOk, IsTrue};
 ghost use Rattle.sc_equality.specs.Equality.{takes_literal};
 ghost use Rattle.sc_pair.specs.Pair.{takes_own};

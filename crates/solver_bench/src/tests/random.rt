@@ -1,3 +1,5 @@
+//! Numbers and clauses that look random.
+
 ghost use Rattle.std.specs.Prelude.{◌≡◌, ◌<◌, ◌≤◌, All, IfOk};
 ghost use Rattle.sc_solver.specs.Clauses.{IsWithin};
 

@@ -1,3 +1,5 @@
+//! Small cases, each named by what it shows.
+
 ghost use Rattle.std.specs.Prelude.{◌≡◌, ◌<◌, ◌+◌, [], length, map, All, IfOk, OnOk};
 ghost use Rattle.sc_solver.specs.Clauses.{IsWithin};
 

@@ -1,3 +1,5 @@
+//! The values that variables, terms and numbers can have, and a search of all.
+
 ghost use Rattle.std.specs.Prelude.{◌≡◌, ◌<◌};
 
 use crate::tests::mixed::Difference;
