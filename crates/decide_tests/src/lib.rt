@@ -1,12 +1,5 @@
-//! Tests of verdicts on formulas.
-//!
-//! - `over`: whether a formula is over a signature.
-//! - `forms`: [`Forms`], formulas as tests write them.
+//! Tests of verdicts on formulas that are written out in code.
 #![tactic(auto)]
 
-mod forms;
-mod over;
 #[cfg(test)]
 mod tests;
-
-pub use forms::Forms;

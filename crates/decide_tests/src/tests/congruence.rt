@@ -1,8 +1,8 @@
 //! Formulas that are decided by what is the same at the same elements.
 
-use crate::Forms;
 use crate::tests::signatures::function_to;
 use crate::tests::verdicts::{Kind, kind_of};
+use decide_trial::Forms;
 use sc_formula::{Range, Signature};
 use std::alloc::{AllocError, Global};
 use std::test::Fail;

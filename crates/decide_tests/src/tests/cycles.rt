@@ -1,8 +1,8 @@
 //! Formulas whose sort graph has a cycle.
 
-use crate::Forms;
 use crate::tests::signatures::{function_to, related_within};
 use crate::tests::verdicts::{Kind, kind_of};
+use decide_trial::Forms;
 use sc_decide::Verdict;
 use sc_formula::Range;
 use std::alloc::{AllocError, Global};

@@ -1,8 +1,8 @@
 //! Formulas without cycles.
 
-use crate::Forms;
 use crate::tests::signatures::{function_to, related_back};
 use crate::tests::verdicts::{Kind, kind_of};
+use decide_trial::Forms;
 use sc_decide::Verdict;
 use sc_formula::{Range, SVal};
 use std::alloc::{AllocError, Global};

@@ -1,9 +1,9 @@
 //! Formulas with more pairs of pairs, or of terms of one function, than clauses of congruence are
 //! written out first.
 
-use crate::Forms;
 use crate::tests::signatures::{function_to, related_back};
 use crate::tests::verdicts::{Kind, kind_of};
+use decide_trial::Forms;
 use sc_formula::Range;
 use std::alloc::{AllocError, Global};
 use std::test::Fail;

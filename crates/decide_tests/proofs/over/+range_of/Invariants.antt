@@ -1,4 +1,0 @@
-use Rattle.decide_tests.proofs.over.+range_of.Given as goal
-
-abbrev pub decreases-range_of : goal.decreases-range_of
-decreases-range_of l = l.parts
