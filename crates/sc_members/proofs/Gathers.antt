@@ -1,6 +1,6 @@
 -- Lists of principals, and the sets that they are gathered from.
-use Rattle.std.proofs.Common.{◌≡◌, ℕ, zero, suc, ◌<◌, ◌≤◌, Bool, true, false, not, ◌||◌, ◌&&◌, List, [], ◌∷◌, ◌++◌, refl, ap, sym, ◌∙◌, cond, subst, arith, get_or, length, map}
-use Rattle.std.specs.Prelude.{filter, Option, Some, None, Result, Ok, Err, IfOk, Contains, ◌==◌, if◌then◌else◌}
+use Rattle.std.proofs.Common.{◌≡◌, ℕ, zero, suc, ◌<◌, Bool, true, false, not, ◌||◌, ◌&&◌, List, [], ◌∷◌, ◌++◌, refl, ap, sym, ◌∙◌, cond, arith, get_or, length, map}
+use Rattle.std.specs.Prelude.{filter, Option, Some, None, Result, Ok, Err, IfOk, Contains, ◌==◌}
 use Rattle.std.specs.List.{list_any}
 use Rattle.std.specs.Option.{option_map}
 use Rattle.std.specs.declared.cmp.Ordering.{Ordering}
@@ -8,9 +8,9 @@ use Rattle.std.proofs.lemmas.Bool.{eqb-true, eq-eqb}
 use Rattle.sc_schema.specs.Trees.{Filters, find}
 use Rattle.sc_data.specs.declared.principals.Principal.{Principal}
 use Rattle.sc_data.specs.declared.principals.Principal.TheVariants.{Static, Rec}
-use Rattle.sc_data.specs.Values.{Value, Id}
+use Rattle.sc_data.specs.Values.{Value}
 use Rattle.sc_data.specs.Database.{Database, ids_of}
-use Rattle.sc_eval.specs.Meaning.{Env, id_of, id_of_record, is_among, is_record, is_static, member, meets, same_truth, taken_apart, value_of}
+use Rattle.sc_eval.specs.Meaning.{Env, id_of, is_among, is_record, member, meets, same_truth, taken_apart}
 use Rattle.sc_members.specs.Sets.{is_one_of, is_principal}
 use Rattle.sc_members.specs.Touching.{IsSetOf}
 use Rattle.sc_members.specs.Variables.{content_of}

@@ -1,4 +1,5 @@
 pub mod CellReads
+pub mod Finds
 pub mod Founds
 pub mod Gathers
 pub mod Levels

@@ -24,7 +24,7 @@ any-filtered {A} p q (x ∷ xs) =
       | false ↦ any-filtered p q xs
     ]
 
-ids-seen : (rs : List code_record.Record) → map (λ (r : Record). r.id) (map record_data rs) ≡ map (λ r. r.id) rs
+pub ids-seen : (rs : List code_record.Record) → map (λ (r : Record). r.id) (map record_data rs) ≡ map (λ r. r.id) rs
 ids-seen [] = refl
 ids-seen (r ∷ rs) = ap (λ ids. r.id ∷ ids) (ids-seen rs)
 

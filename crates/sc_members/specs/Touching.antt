@@ -1,5 +1,5 @@
 -- The order of cells, and lists that are sets.
-use Rattle.std.specs.Prelude.{ℕ, List, Contains}
+use Rattle.std.specs.Prelude.{List, Contains}
 use Rattle.std.specs.declared.cmp.Ordering.{Ordering}
 use Rattle.std.specs.Ordering.{nat_cmp, ordering_then}
 use Rattle.std.specs.List.Sorted.{IsStrictlySortedBy}

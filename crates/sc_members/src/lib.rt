@@ -4,6 +4,7 @@
 //! |---|---|
 //! | `answers` | whom a policy allows a right, who is in a set, what an initialiser gives, reads |
 //! | `meaning` | the value of an expression, and whether a principal is in a set |
+//! | `finding` | the records that pass the tests of filters |
 //! | `parts`, `principals` | parts of values, and how they compare |
 //! | `seen` | the value of an expression |
 //! | `touching` | the cells that expressions and sets read |
@@ -12,6 +13,7 @@
 #![tactic(auto)]
 
 mod answers;
+mod finding;
 mod gathering;
 mod meaning;
 mod order;

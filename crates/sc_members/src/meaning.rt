@@ -1,24 +1,26 @@
 //! The value of an expression, and whether a principal is in a set.
 
-ghost use Rattle.std.specs.Prelude.{◌≡◌, ◌&&◌, ◌||◌, ◌++◌, ◌∷◌, [], filter, map, slice_index_or};
-ghost use Rattle.std.specs.Prelude.{IfOk, IfSome, IfNone, true, false};
-ghost use Rattle.std.specs.List.{list_any};
+ghost use Rattle.std.specs.Prelude.{◌≡◌, ◌||◌, ◌++◌, ◌∷◌, [], filter, map, slice_index_or};
+ghost use Rattle.std.specs.Prelude.{ℕ, IfOk, IfSome, IfNone, true, false};
+ghost use Rattle.std.specs.List.{list_all, list_any};
 ghost use Rattle.std.specs.Option.{option_map, option_copied};
-ghost use Rattle.sc_schema.specs.Trees.{Items, Filters};
+ghost use Rattle.sc_schema.specs.Trees.{Items, no_filters};
 ghost use Rattle.sc_schema.specs.Views as view;
 ghost use Rattle.sc_data.specs.Values as stored;
-ghost use Rattle.sc_data.specs.Database.{ids_of, field_at};
+ghost use Rattle.sc_data.specs.Database.{ids_of, field_at, slots_of};
 ghost use Rattle.sc_data.specs.declared.principals.Principal.TheVariants.{Rec};
-ghost use Rattle.sc_records.specs.Views.{value_data};
+ghost use Rattle.sc_records.specs.Views.{slot_data, value_data};
 ghost use Rattle.sc_eval.specs.Meaning as meaning;
-ghost use Rattle.sc_members.specs.Variables.{env_data, seen_data, content_of};
+ghost use Rattle.sc_members.specs.Tests.{passes_in};
+ghost use Rattle.sc_members.specs.Variables.{env_data, seen_data, content_of, first_value};
 
-use crate::parts::{are_equal, id, ids, is_less, passes, same_truth, truth};
+use crate::finding::{Test, ids_passing, passes_all, rising_records, test_of};
+use crate::parts::{are_equal, id, ids, is_less, same_truth, truth};
 use crate::principals::{is_among, is_record, is_static};
 use crate::seen::Seen;
 use sc_ast::Txt;
 use sc_data::Principal;
-use sc_records::{Database, Value};
+use sc_records::{Database, Record, Value};
 use sc_schema::{FieldNo, ModelNo, TExpr, TFilter, TItem, TSet};
 use sqlite_items::Boxed;
 use std::alloc::{AllocError, Global};
@@ -101,21 +103,16 @@ pub(crate) fn content(v: &Value) -> Option<&Value>
     }
 }
 
-/// The id of the principal, if it is a record of the model that is there.
-fn record_of(database: &Database, m: ModelNo, who: Principal) -> Option<u64>
-    ensures found { IfSome result (λ id. (meaning.is_among m (ids_of database.now m) who ≡ true) ×
-        (meaning.id_of_record who ≡ id)) }
+/// The record that the principal is, if it is one of the model that is there.
+fn record_of(database: &Database, m: ModelNo, who: Principal) -> Option<&Record>
+    ensures found { IfSome (option_copied result) (λ r.
+        (meaning.is_among m (ids_of database.now m) who ≡ true) ×
+        (slots_of database.now m (meaning.id_of_record who) ≡ map slot_data r.slots)) }
     ensures none { IfNone result (meaning.is_among m (ids_of database.now m) who ≡ false) }
 {
     match who {
         Principal::Static(_) => None,
-        Principal::Rec(n, id) => {
-            if n == m && database.has(m, id) {
-                Some(id)
-            } else {
-                None
-            }
-        }
+        Principal::Rec(n, id) => { if n == m { database.get(m, id) } else { None } }
     }
 }
 
@@ -244,7 +241,10 @@ pub(crate) fn holds(
             holds(alloc, database, a.get(), env, who)
         }
         TSet::Find(m, filters) => match record_of(database, *m, who) {
-            Some(id) => meets(alloc, database, filters.as_slice(), env, *m, id),
+            Some(record) => {
+                let tests = tests_of(alloc, database, filters.as_slice(), env)?;
+                Ok(passes_all(tests.as_slice(), record))
+            }
             None => Ok(false),
         },
         TSet::Path(m, e) => {
@@ -322,46 +322,40 @@ fn is_item(
     }
 }
 
-/// Whether the record of the model with this id meets every filter.
+/// The tests of filters, whose values are worked out once.
 #[cycle(meaning)]
-fn meets(
+fn tests_of(
     alloc: Global,
     database: &Database,
     filters: &[TFilter],
     env: &[Value],
-    m: ModelNo,
-    id: u64,
-) -> Result<bool, AllocError>
-    ensures { IfOk result (λ b. b
-        ≡ meaning.meets database.now (env_data env.now) m
-        (view.filters_of (map view.filter_of filters.now)) id) }
+) -> Result<Vec<Test>, AllocError>
+    ensures { IfOk result (λ tests. (m id : ℕ) → meaning.meets database.now (env_data env.now) m
+        (view.filters_of (map view.filter_of filters.now)) id
+        ≡ list_all (passes_in (slots_of database.now m id)) tests.items) }
 {
+    let mut tests = Vec::new(alloc);
     for filter in filters {
-        if !meets_one(alloc, database, filter, env, m, id)? {
-            return Ok(false);
-        }
+        let with = value_in(alloc, database, filter, env)?;
+        tests.push(test_of(filter, with))?;
     }
-    Ok(true)
+    Ok(tests)
 }
 
-/// Whether the record of the model with this id meets the filter.
+/// The value that a filter compares with.
 #[cycle(meaning)]
-fn meets_one(
+fn value_in(
     alloc: Global,
     database: &Database,
     filter: &TFilter,
     env: &[Value],
-    m: ModelNo,
-    id: u64,
-) -> Result<bool, AllocError>
-    ensures { IfOk result (λ b. (rest : Filters) →
-        meaning.meets database.now (env_data env.now) m (view.filter_of filter.now rest) id
-        ≡ (b && meaning.meets database.now (env_data env.now) m rest id)) }
+) -> Result<Value, AllocError>
+    ensures { IfOk result (λ v. value_data v
+        ≡ meaning.value_of database.now (env_data env.now)
+        (first_value (view.filter_of filter.now no_filters))) }
 {
-    let TFilter::Test(f, op, e) = filter;
-    let v = value(alloc, database, e, env)?;
-    let held = field(database, m, id, *f);
-    Ok(passes(*op, held.get(), v.get()))
+    let TFilter::Test(_, _, e) = filter;
+    value(alloc, database, e, env)?.into_value(alloc)
 }
 
 /// The ids of the records of the model that are in a set, in their order.
@@ -377,6 +371,13 @@ pub(crate) fn ids_within(
         ≡ filter (λ y. meaning.member database.now (env_data env.now) (view.set_of set.now)
         (Rec m y)) (ids_of database.now m)) }
 {
+    if let TSet::Find(n, filters) = set
+        && *n == m
+        && let Some(records) = rising_records(database, m)
+    {
+        let tests = tests_of(alloc, database, filters.as_slice(), env)?;
+        return ids_passing(alloc, records, tests.as_slice());
+    }
     let mut found = Vec::new(alloc);
     for record in database.records(m) {
         if holds(alloc, database, set, env, Principal::Rec(m, record.id))? {

@@ -1,6 +1,5 @@
-use Rattle.std.proofs.Common.{◌≡◌, ap, sym, ◌∙◌, subst, not}
+use Rattle.std.proofs.Common.{ap, sym, ◌∙◌, subst, not}
 use Rattle.std.specs.List.Sorted.{IsStrictlySortedBy}
-use Rattle.sc_data.specs.declared.principals.Principal.{Principal}
 use Rattle.sc_members.specs.Has.{has}
 use Rattle.sc_members.specs.Sets.{principal_cmp}
 use Rattle.sc_members.proofs.Gathers.{same-members}

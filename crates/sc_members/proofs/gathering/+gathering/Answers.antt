@@ -5,7 +5,7 @@ use Rattle.sc_schema.specs.Views as view
 use Rattle.sc_data.specs.Values.{Value, Id}
 use Rattle.sc_data.specs.Database.{ids_of}
 use Rattle.sc_data.specs.declared.principals.Principal.TheVariants.{Rec}
-use Rattle.sc_eval.specs.Meaning.{id_of, is_record, member, value_of}
+use Rattle.sc_eval.specs.Meaning.{is_record, member, value_of}
 use Rattle.sc_members.specs.Has.{has}
 use Rattle.sc_members.specs.Sets.{is_one_of}
 use Rattle.sc_members.specs.Variables.{env_data}

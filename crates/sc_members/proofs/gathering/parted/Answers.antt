@@ -1,4 +1,4 @@
-use Rattle.std.proofs.Common.{ap, sym, ◌∙◌}
+use Rattle.std.proofs.Common.{ap, ◌∙◌}
 use Rattle.sc_eval.specs.Meaning.{same_truth}
 use Rattle.sc_members.specs.Sets.{is_one_of}
 use Rattle.sc_members.proofs.Founds.{told-filter}

@@ -1,5 +1,10 @@
-use Rattle.std.proofs.Common.{arith, ◌∙◌}
+use Rattle.std.proofs.Common.{arith, ◌≡◌, ◌∙◌, ◌+◌, ◌∷◌, ap, drop, map, sym}
+use Rattle.std.proofs.lemmas.List.{drop_more}
+use Rattle.sc_schema.specs.Views.{filter_of, filters_of}
+use Rattle.sc_records.specs.Views.{value_data}
+use Rattle.sc_members.specs.declared.finding.Test.{Test}
 use Rattle.sc_members.specs.Variables.{env_data}
+use Rattle.sc_members.proofs.Finds.{searched, test-more}
 use Rattle.sc_members.proofs.Loops.{mapped-from, flat_mapped-from, within-done}
 use Rattle.sc_members.proofs.meaning.+meaning.Goals as goal
 
@@ -17,5 +22,22 @@ holds-returns-in-FlatS t c =
 
 pub ids_within-returns : goal.ids_within-returns
 ids_within-returns t c =
+    searched (λ found. found.items) c.args.database.now (env_data c.args.env.now) c.args.m c.in-Find.n c.args.set.now c.in-Find.filters c.as_slice.result.now c.in_ok-tests.tests.items
+    c.as_slice-2.result.now c.in-Some.records.now c.ids_passing.result c.in-Find.is c.if-n-m.true c.as_slice.ensures c.as_slice-2.ensures.value c.in_ok-tests.ensures
+    c.in-Some.ensures.all c.in-Some.ensures.rising c.ids_passing.ensures
+
+pub ids_within-returns-2 : goal.ids_within-returns-2
+ids_within-returns-2 t c =
     within-done c.args.database.now (env_data c.args.env.now) c.args.set.now c.args.m c.loop-record.found.items c.records-record-items.result.now c.loop-record.record-index
     c.loop-record.invariant (omega arith) c.records-record-items.ensures
+
+pub tests_of-loop-filter-preserved : goal.tests_of-loop-filter-preserved
+tests_of-loop-filter-preserved t c =
+    let fs = c.args.filters.now in
+    let i = c.loop-filter.filter-index in
+    let filter = c.filter-item.result in
+    let next : drop i fs ≡ filter ∷ drop (i + 1) fs = drop_more fs i filter c.loop-filter-test.true ∙ ap (λ f. f ∷ drop (i + 1) fs) (sym c.filter-item.is) in
+    λ m id. rw c.in_ok-push.ensures.items
+    (test-more c.args.database.now (env_data c.args.env.now) (filters_of (map filter_of fs)) c.loop-filter.tests.items (drop i fs) filter (drop (i + 1) fs) c.test_of.result
+    c.loop-filter.invariant next (ap (λ (u : Test). u.field) c.test_of.ensures) (ap (λ (u : Test). u.op) c.test_of.ensures)
+    (ap (λ (u : Test). value_data u.with) c.test_of.ensures ∙ c.in_ok-with.ensures) m id)

@@ -1,10 +1,12 @@
-use Rattle.std.proofs.Common.{◌≡◌, ◌++◌, ◌∷◌, [], map, take, drop, false}
+use Rattle.std.proofs.Common.{◌≡◌, ℕ, ◌&&◌, ◌++◌, ◌∷◌, [], map, take, drop, false}
 use Rattle.std.specs.Prelude.{filter}
-use Rattle.std.specs.List.{list_any}
+use Rattle.std.specs.List.{list_all, list_any}
 use Rattle.sc_schema.specs.Views as view
+use Rattle.sc_data.specs.Database.{slots_of}
 use Rattle.sc_data.specs.Values as stored
 use Rattle.sc_data.specs.declared.principals.Principal.TheVariants.{Rec}
 use Rattle.sc_eval.specs.Meaning as meaning
+use Rattle.sc_members.specs.Tests.{passes_in}
 use Rattle.sc_members.specs.Variables.{env_data}
 use Rattle.sc_members.proofs.meaning.+meaning.Given as goal
 
@@ -26,7 +28,9 @@ abbrev pub invariant-maps_to-loop-id : goal.invariant-maps_to-loop-id
 invariant-maps_to-loop-id l =
     list_any (λ y. meaning.is_record l.m (meaning.value_of l.database (env_data l.env ++ stored.Id y ∷ []) (view.expr_of l.e)) l.who) (take l.id-index l.ids) ≡ false
 
-abbrev pub invariant-meets-loop-filter : goal.invariant-meets-loop-filter
-invariant-meets-loop-filter l =
-    meaning.meets l.database (env_data l.env) l.m (view.filters_of (map view.filter_of (drop l.filter-index l.filters))) l.id
-    ≡ meaning.meets l.database (env_data l.env) l.m (view.filters_of (map view.filter_of l.filters)) l.id
+-- whether a record meets the filters is settled by the tests so far and the filters that are left
+abbrev pub invariant-tests_of-loop-filter : goal.invariant-tests_of-loop-filter
+invariant-tests_of-loop-filter l =
+    (m id : ℕ) → meaning.meets l.database (env_data l.env) m (view.filters_of (map view.filter_of l.filters)) id
+    ≡ (list_all (passes_in (slots_of l.database m id)) l.tests.items
+    && meaning.meets l.database (env_data l.env) m (view.filters_of (map view.filter_of (drop l.filter-index l.filters))) id)

@@ -1,6 +1,5 @@
-use Rattle.std.proofs.Common.{◌≡◌, true, false, ◌++◌, ◌∷◌, [], ap, ◌∙◌, subst, refl, map}
-use Rattle.std.specs.Prelude.{if◌then◌else◌, OnOk}
-use Rattle.std.specs.List.{flat_map}
+use Rattle.std.proofs.Common.{◌≡◌, true, false, ◌++◌, ◌∷◌, [], ap, ◌∙◌, subst, map}
+use Rattle.std.specs.Prelude.{OnOk}
 use Rattle.sc_schema.specs.Trees.{no_filters}
 use Rattle.sc_schema.specs.Views as view
 use Rattle.sc_data.specs.Values.{Id}
