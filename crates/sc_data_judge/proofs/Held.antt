@@ -17,7 +17,7 @@ use Rattle.sc_data_judge.specs.Laid.{IsLaid, AreLaid}
 use Rattle.sc_data_judge.specs.Meaning.{Holds, AreHeld, next_for, records_for}
 use Rattle.sc_data_judge.proofs.Sound.{IsClean, clean}
 
-same-flips : (a b : ℕ) → nat_eq a b ≡ nat_eq b a
+pub same-flips : (a b : ℕ) → nat_eq a b ≡ nat_eq b a
 same-flips a b = grind arith
 
 pub all-moved : {A : Type 0} (P : A → Type 0) (xs ys : List A) → IsPermutation xs ys → AllByRecursion P xs → AllByRecursion P ys

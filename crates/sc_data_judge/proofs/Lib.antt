@@ -1,9 +1,11 @@
+pub mod Distinct
 pub mod Each
 pub mod Examples
 pub mod Exists
 pub mod First
 pub mod Found
 pub mod Held
+pub mod InOrder
 pub mod One
 pub mod Order
 pub mod Sets

@@ -67,7 +67,7 @@ item-rises : (ns : List ℕ) (o : Option WrittenId) → Rises ns → Rises (opti
 item-rises ns None r = r
 item-rises ns (Some i) r = rises-with ns i.number r
 
-items-rise : (ns : List ℕ) (items : List Lit) → Rises ns → Rises (fold with_item ns items)
+pub items-rise : (ns : List ℕ) (items : List Lit) → Rises ns → Rises (fold with_item ns items)
 items-rise ns [] r = r
 items-rise ns (l ∷ items) r = items-rise (with_item ns l) items (item-rises ns (id_in l) r)
 

@@ -88,7 +88,7 @@ behind-clean {A} {B} f p before (y ∷ xs) e x is =
       | false ↦ λ h. behind-clean f p (pushed before y) xs parts.1 x h
     ] is
 
-bytes-same : (k : List ℕ) → bytes_eq k k ≡ true
+pub bytes-same : (k : List ℕ) → bytes_eq k k ≡ true
 bytes-same k = (bytes_eq-Decides k k).1 refl
 
 number-same : (k : ℕ) → nat_eq k k ≡ true
@@ -99,7 +99,7 @@ unfolding IsDistinct
 distinct-back e [] ys apart = apart
 distinct-back e (x ∷ xs) ys apart = distinct-back e xs ys apart.1
 
-all-found : {A : Type 0} (P : A → Type 0) (p : A → Bool) (xs : List A) (x : A) → AllByRecursion P xs → find p xs ≡ Some x → P x
+pub all-found : {A : Type 0} (P : A → Type 0) (p : A → Bool) (xs : List A) (x : A) → AllByRecursion P xs → find p xs ≡ Some x → P x
 all-found P p [] x all e = cc
 all-found P p (y ∷ xs) x all e =
     elim (p y) as (λ (b : Bool). cond b (Some y) (find p xs) ≡ Some x → P x) [

@@ -1,5 +1,6 @@
 pub mod Faults
 pub mod First
+pub mod InOrder
 pub mod Judged
 pub mod Laid
 pub mod Limits

@@ -3,12 +3,14 @@
 ghost use Rattle.std.specs.Prelude.{◌≡◌, [], IfOk, OnOk, map};
 ghost use Rattle.sc_data_judge.specs.Faults as spec;
 ghost use Rattle.sc_data_judge.specs.First.{first_behind, pushed};
+ghost use Rattle.sc_data_judge.specs.InOrder.{AreApart, AreApartEach, first_paired};
 ghost use Rattle.sc_data_judge.specs.Meaning.{with_item};
 ghost use Rattle.sc_schema.specs.SchemaViews.{field_info_of, model_info_of};
 
 use crate::fault::Fault;
+use crate::ids::{distinct_ids, ids_rise};
 use crate::literals::{id_in, is_base, lit_at};
-use crate::names::{field_named, has_field, has_table, model_named};
+use crate::names::{are_in_order, field_named, has_field, has_table, model_named};
 use crate::numbers::Numbers;
 use sc_data_tree::{FieldLit, Lit, RecordLit, TableLit};
 use sc_schema::{FieldInfo, ModelInfo, TBase, TTy};
@@ -47,6 +49,12 @@ fn item_fault(seen: &mut Numbers, l: &Lit) -> Result<Option<Fault>, AllocError>
 fn items_fault(alloc: Global, items: &[Lit]) -> Result<Option<Fault>, AllocError>
     ensures { IfOk result (λ fault. fault ≡ spec.items_fault items.now) }
 {
+    if ids_rise(items) {
+        return Ok(None);
+    }
+    if distinct_ids(alloc, items)?.is_some() {
+        return Ok(None);
+    }
     let mut seen = Numbers::new(alloc);
     for l in items {
         let fault = item_fault(&mut seen, l)?;
@@ -137,8 +145,33 @@ fn are_given(fields: &[FieldInfo], ws: &[FieldLit]) -> bool
     }
 }
 
-/// The first fault of the fields of a record, and the brace that ends it.
-fn row_fault(
+/// The first fault of what is written for the fields in their order.
+fn values_fault(
+    alloc: Global,
+    fields: &[FieldInfo],
+    ws: &[FieldLit],
+) -> Result<Option<Fault>, AllocError>
+    ensures { IfOk result (λ fault. fault
+        ≡ first_paired (λ f w. spec.value_fault f.ty w.value)
+        (map field_info_of fields.now) ws.now) }
+{
+    match fields {
+        [] => Ok(None),
+        [info, fields @ ..] => match ws {
+            [] => Ok(None),
+            [w, ws @ ..] => {
+                let fault = value_fault(alloc, info.ty, &w.value)?;
+                if fault.is_some() {
+                    return Ok(fault);
+                }
+                values_fault(alloc, fields, ws)
+            }
+        },
+    }
+}
+
+/// The first fault of the fields of a record in any order, and the brace that ends it.
+fn sought_fault(
     alloc: Global,
     fields: &[FieldInfo],
     row: &RecordLit,
@@ -157,6 +190,24 @@ fn row_fault(
     }
 }
 
+/// The first fault of the fields of a record, and the brace that ends it.
+fn row_fault(
+    alloc: Global,
+    fields: &[FieldInfo],
+    row: &RecordLit,
+) -> Result<Option<Fault>, AllocError>
+    requires { AreApart (map field_info_of fields.now) }
+    ensures { IfOk result (λ fault. fault
+        ≡ spec.row_fault (map field_info_of fields.now) row.now.fields row.now.«end») }
+{
+    let ws = row.fields.as_slice();
+    if are_in_order(fields, ws) {
+        values_fault(alloc, fields, ws)
+    } else {
+        sought_fault(alloc, fields, row)
+    }
+}
+
 /// What is wrong with a record of a table with this next id, behind records with these ids. Its
 /// own is put to them.
 fn record_fault(
@@ -166,6 +217,7 @@ fn record_fault(
     seen: &mut Numbers,
     row: &RecordLit,
 ) -> Result<Option<Fault>, AllocError>
+    requires { AreApart (map field_info_of fields.now) }
     ensures fault { IfOk result (λ fault. fault
         ≡ spec.record_fault (map field_info_of fields.now) next seen.old row.now) }
     ensures seen { OnOk result (seen.new ≡ spec.with_record seen.old row.now) }
@@ -188,6 +240,7 @@ fn records_fault(
     next: u64,
     rows: &[RecordLit],
 ) -> Result<Option<Fault>, AllocError>
+    requires { AreApart (map field_info_of fields.now) }
     ensures { IfOk result (λ fault. fault
         ≡ spec.records_fault (map field_info_of fields.now) next rows.now) }
 {
@@ -207,6 +260,7 @@ fn body_fault(
     fields: &[FieldInfo],
     table: &TableLit,
 ) -> Result<Option<Fault>, AllocError>
+    requires { AreApart (map field_info_of fields.now) }
     ensures { IfOk result (λ fault. fault
         ≡ spec.body_fault (map field_info_of fields.now) table.now) }
 {
@@ -225,6 +279,7 @@ fn table_fault(
     before: &[TableLit],
     table: &TableLit,
 ) -> Result<Option<Fault>, AllocError>
+    requires { AreApartEach (map model_info_of models.now) }
     ensures { IfOk result (λ fault. fault
         ≡ spec.table_fault (map model_info_of models.now) before.now table.now) }
 {
@@ -246,6 +301,7 @@ pub(crate) fn rule_fault(
     models: &[ModelInfo],
     ts: &[TableLit],
 ) -> Result<Option<Fault>, AllocError>
+    requires { AreApartEach (map model_info_of models.now) }
     ensures { IfOk result (λ fault. fault
         ≡ first_behind (spec.table_fault (map model_info_of models.now)) pushed [] ts.now) }
 {

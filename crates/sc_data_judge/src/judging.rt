@@ -2,6 +2,7 @@
 
 ghost use Rattle.std.specs.Prelude.{◌≡◌, IfErr, IfOk, None, map};
 ghost use Rattle.sc_data_judge.specs.Limits as spec;
+ghost use Rattle.sc_data_judge.specs.InOrder.{AreApartEach};
 ghost use Rattle.sc_data_judge.specs.Judged.{IsGiven, IsRefusedFor, Writes};
 ghost use Rattle.sc_data.specs.Database.{IsDatabase};
 ghost use Rattle.sc_data_judge.specs.Ranged.{IsRanged};
@@ -24,6 +25,7 @@ use std::alloc::Global;
 
 /// The tables of what is written, where no part breaks a rule.
 fn written(alloc: Global, ts: &[TableLit], s: &Schema) -> Result<Vec<Table>, Refusal>
+    requires { AreApartEach (schema_of s.now).models }
     ensures ok { IfOk result (λ tables. Writes (schema_of s.now) ts.now
         (map table_data tables.items)) }
     ensures rising { IfOk result (λ tables. AreRising (map table_data tables.items)) }

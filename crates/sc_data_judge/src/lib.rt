@@ -6,6 +6,7 @@
 //! | `numbers` | `Numbers`, a set of numbers |
 //! | `names` | what names name |
 //! | `literals` | values as they are written |
+//! | `ids` | the ids of the items of sets |
 //! | `faults` | the first part in reading order that breaks a rule |
 //! | `rows`, `tables` | records and tables of what is written |
 //! | `references` | the first id in a value that names no record |
@@ -18,6 +19,7 @@
 
 mod fault;
 mod faults;
+mod ids;
 mod judging;
 mod laws;
 mod limits;

@@ -5,6 +5,7 @@ ghost use Rattle.std.specs.List.{find, list_any};
 ghost use Rattle.std.specs.Option.{option_map};
 ghost use Rattle.std.specs.Str.{bytes_eq};
 ghost use Rattle.sc_data_judge.specs.Faults as spec;
+ghost use Rattle.sc_data_judge.specs.InOrder as order;
 ghost use Rattle.sc_schema.specs.SchemaViews.{field_info_of, model_info_of};
 
 use sc_data_tree::{FieldLit, TableLit};
@@ -50,6 +51,22 @@ pub(crate) fn field_written<'s>(fields: &'s [FieldLit], name: &[u8]) -> Option<&
     ensures { option_copied result ≡ find (λ w. bytes_eq w.name.name name.now) fields.now }
 {
     fields.iter().find(|w| same_name(w.name.name.bytes(), name))
+}
+
+/// Whether the fields of the model are written, each once and in their order, as in a text that was
+/// printed: then no name has to be sought.
+pub(crate) fn are_in_order(fields: &[FieldInfo], ws: &[FieldLit]) -> bool
+    ensures { result ≡ order.are_in_order (map field_info_of fields.now) ws.now }
+{
+    match fields {
+        [] => ws.is_empty(),
+        [info, fields @ ..] => match ws {
+            [] => false,
+            [w, ws @ ..] => {
+                same_name(w.name.name.bytes(), info.name.bytes()) && are_in_order(fields, ws)
+            }
+        },
+    }
 }
 
 /// Whether a field of the name is written.

@@ -2,13 +2,14 @@
 
 ghost use Rattle.std.specs.Prelude.{◌≡◌, map};
 ghost use Rattle.sc_data_judge.specs.First.{first_given};
+ghost use Rattle.sc_data_judge.specs.InOrder.{AreApart, AreApartEach, first_paired};
 ghost use Rattle.sc_data_judge.specs.References as spec;
 ghost use Rattle.sc_data_tree.specs.declared.literals.Lit.{out-Lit};
 ghost use Rattle.sc_records.specs.Shape as shape;
 ghost use Rattle.sc_schema.specs.SchemaViews.{field_info_of, model_info_of};
 
 use crate::literals::id_in;
-use crate::names::{field_named, model_named};
+use crate::names::{are_in_order, field_named, model_named};
 use sc_data_tree::{FieldLit, Lit, RecordLit, TableLit, WrittenId};
 use sc_records::Database;
 use sc_schema::{FieldInfo, ModelInfo, ModelNo, TBase, TTy};
@@ -95,11 +96,36 @@ fn field_lost(database: &Database, fields: &[FieldInfo], w: &FieldLit) -> Option
     }
 }
 
+/// The first such id in what is written for the fields in their order.
+fn values_lost(database: &Database, fields: &[FieldInfo], ws: &[FieldLit]) -> Option<u32>
+    ensures { result ≡ first_paired (λ f w. spec.value_lost database.now f.ty w.value)
+        (map field_info_of fields.now) ws.now }
+{
+    match fields {
+        [] => None,
+        [info, fields @ ..] => match ws {
+            [] => None,
+            [w, ws @ ..] => {
+                let at = value_lost(database, info.ty, &w.value);
+                if at.is_some() {
+                    return at;
+                }
+                values_lost(database, fields, ws)
+            }
+        },
+    }
+}
+
 /// The first such id in a record.
 fn row_lost(database: &Database, fields: &[FieldInfo], row: &RecordLit) -> Option<u32>
+    requires { AreApart (map field_info_of fields.now) }
     ensures { result ≡ spec.row_lost database.now (map field_info_of fields.now) row.now }
 {
-    for w in row.fields.as_slice() {
+    let ws = row.fields.as_slice();
+    if are_in_order(fields, ws) {
+        return values_lost(database, fields, ws);
+    }
+    for w in ws {
         let at = field_lost(database, fields, w);
         if at.is_some() {
             return at;
@@ -110,6 +136,7 @@ fn row_lost(database: &Database, fields: &[FieldInfo], row: &RecordLit) -> Optio
 
 /// The first such id in records.
 fn records_lost(database: &Database, fields: &[FieldInfo], rows: &[RecordLit]) -> Option<u32>
+    requires { AreApart (map field_info_of fields.now) }
     ensures { result
         ≡ first_given (spec.row_lost database.now (map field_info_of fields.now)) rows.now }
 {
@@ -124,6 +151,7 @@ fn records_lost(database: &Database, fields: &[FieldInfo], rows: &[RecordLit]) -
 
 /// The first such id in a table.
 fn table_lost(database: &Database, models: &[ModelInfo], table: &TableLit) -> Option<u32>
+    requires { AreApartEach (map model_info_of models.now) }
     ensures { result
         ≡ spec.table_lost database.now (map model_info_of models.now) table.now }
 {
@@ -135,6 +163,7 @@ fn table_lost(database: &Database, models: &[ModelInfo], table: &TableLit) -> Op
 
 /// The first id in the values of tables that names no record of the database.
 pub(crate) fn lost(database: &Database, models: &[ModelInfo], ts: &[TableLit]) -> Option<u32>
+    requires { AreApartEach (map model_info_of models.now) }
     ensures { result
         ≡ first_given (spec.table_lost database.now (map model_info_of models.now)) ts.now }
 {

@@ -1,14 +1,16 @@
 //! Records of what is written.
 
 ghost use Rattle.std.specs.Prelude.{◌≡◌, ◌++◌, IfOk, OnOk, map};
+ghost use Rattle.sc_data_judge.specs.InOrder.{AreApart, slots_paired};
 ghost use Rattle.sc_data_judge.specs.Meaning as meaning;
 ghost use Rattle.sc_data_judge.specs.Meaning.{with_item};
 ghost use Rattle.sc_data_tree.specs.declared.literals.Lit.{out-Lit};
 ghost use Rattle.sc_records.specs.Views.{record_data, slot_data, value_data};
 ghost use Rattle.sc_schema.specs.SchemaViews.{field_info_of};
 
+use crate::ids::{distinct_ids, ids_rise, numbers_in};
 use crate::literals::id_in;
-use crate::names::field_written;
+use crate::names::{are_in_order, field_written};
 use crate::numbers::Numbers;
 use sc_data_tree::{FieldLit, Lit, RecordLit};
 use sc_records::{Record, Slot, Slots, Value};
@@ -33,6 +35,12 @@ fn add_item(seen: &mut Numbers, l: &Lit) -> Result<(), AllocError>
 fn ids_of(alloc: Global, items: &[Lit]) -> Result<Items<u64>, AllocError>
     ensures { IfOk result (λ ids. ids ≡ meaning.ids_of items.now) }
 {
+    if ids_rise(items) {
+        return Ok(Items::from_vec(numbers_in(alloc, items)?));
+    }
+    if let Some(ids) = distinct_ids(alloc, items)? {
+        return Ok(Items::from_vec(ids));
+    }
     let mut seen = Numbers::new(alloc);
     for l in items {
         add_item(&mut seen, l)?;
@@ -114,17 +122,64 @@ fn push_slots(
     }
 }
 
+/// Adds what is written for the fields in their order.
+fn push_paired(
+    alloc: Global,
+    ws: &[FieldLit],
+    fields: &[FieldInfo],
+    slots: &mut Slots,
+) -> Result<(), AllocError>
+    ensures { OnOk result (map slot_data slots.new
+        ≡ map slot_data slots.old ++ slots_paired (map field_info_of fields.now) ws.now) }
+{
+    match fields {
+        [] => Ok(()),
+        [info, fields @ ..] => match ws {
+            [] => Ok(()),
+            [w, ws @ ..] => {
+                let value = value_of(alloc, &w.value)?;
+                let slot = Slot {
+                    field: info.number,
+                    value,
+                };
+                slots.push(slot)?;
+                push_paired(alloc, ws, fields, slots)
+            }
+        },
+    }
+}
+
+/// Adds what is written for fields, in whatever order.
+fn push_written(
+    alloc: Global,
+    ws: &[FieldLit],
+    fields: &[FieldInfo],
+    slots: &mut Slots,
+) -> Result<(), AllocError>
+    requires { AreApart (map field_info_of fields.now) }
+    ensures { OnOk result (map slot_data slots.new
+        ≡ map slot_data slots.old
+        ++ map (meaning.slot_of ws.now) (map field_info_of fields.now)) }
+{
+    if are_in_order(fields, ws) {
+        push_paired(alloc, ws, fields, slots)
+    } else {
+        push_slots(alloc, ws, fields, slots)
+    }
+}
+
 /// The record that is written, of a model with these fields.
 pub(crate) fn record_of(
     alloc: Global,
     fields: &[FieldInfo],
     row: &RecordLit,
 ) -> Result<Record, AllocError>
+    requires { AreApart (map field_info_of fields.now) }
     ensures { IfOk result (λ made. record_data made
         ≡ meaning.record_of (map field_info_of fields.now) row.now) }
 {
     let mut slots = Slots::new(alloc);
-    push_slots(alloc, row.fields.as_slice(), fields, &mut slots)?;
+    push_written(alloc, row.fields.as_slice(), fields, &mut slots)?;
     Ok(Record {
         id: row.id.number,
         slots,

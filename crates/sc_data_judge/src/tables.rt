@@ -2,6 +2,7 @@
 
 ghost use Rattle.std.specs.Prelude.{◌≡◌, ◌++◌, ◌∷◌, [], IfOk, OnOk, map};
 ghost use Rattle.std.specs.List.Sorted.{IsNonDecreasingBy, IsPermutation};
+ghost use Rattle.sc_data_judge.specs.InOrder.{AreApart, AreApartEach};
 ghost use Rattle.sc_data_judge.specs.Laid.{AreLaid, IsLaid, Lays};
 ghost use Rattle.sc_data_judge.specs.Meaning as meaning;
 ghost use Rattle.sc_records.specs.Views.{record_data, table_data};
@@ -29,6 +30,7 @@ fn records_of(
     fields: &[FieldInfo],
     rows: &[RecordLit],
 ) -> Result<Vec<Record>, AllocError>
+    requires { AreApart (map field_info_of fields.now) }
     ensures { IfOk result (λ made. map record_data made.items
         ≡ map (meaning.record_of (map field_info_of fields.now)) rows.now) }
 {
@@ -51,6 +53,7 @@ fn by_id(mut records: Vec<Record>) -> Vec<Record>
 
 /// The table of what is written for the model.
 fn table_of(alloc: Global, ts: &[TableLit], info: &ModelInfo) -> Result<Table, AllocError>
+    requires { AreApart (map field_info_of info.now.fields) }
     ensures { IfOk result (λ t. IsLaid ts.now (model_info_of info.now) (table_data t)) }
 {
     match table_written(ts, info.name.bytes()) {
@@ -77,6 +80,7 @@ fn push_tables(
     models: &[ModelInfo],
     tables: &mut Vec<Table>,
 ) -> Result<(), AllocError>
+    requires { AreApartEach (map model_info_of models.now) }
     ensures { OnOk result (Lays ts.now (map model_info_of models.now)
         (map table_data tables.old.items) (map table_data tables.new.items)) }
 {
@@ -96,6 +100,7 @@ pub(crate) fn tables_of(
     ts: &[TableLit],
     models: &[ModelInfo],
 ) -> Result<Vec<Table>, AllocError>
+    requires { AreApartEach (map model_info_of models.now) }
     ensures { IfOk result (λ tables. AreLaid ts.now
         (map model_info_of models.now) (map table_data tables.items)) }
 {

@@ -2,6 +2,7 @@ use Rattle.std.proofs.Common.{◌≡◌, ◌∙◌, sym}
 use Rattle.std.specs.Prelude.{None}
 use Rattle.sc_schema.specs.SchemaViews.{schema_of}
 use Rattle.sc_data_judge.specs.References.{lost}
+use Rattle.sc_data_judge.proofs.InOrder.{proper-apart}
 use Rattle.sc_data_judge.proofs.Standard.{in-order, standard}
 use Rattle.sc_data_judge.proofs.judging.checked.Goals as goal
 
@@ -16,3 +17,6 @@ pub returns-in-None-excess-clause-order : goal.returns-in-None-excess-clause-ord
 returns-in-None-excess-clause-order c =
     let s = schema_of c.args.s.now in
     in-order c.args.ts.now s.models c.args.database c.requires.writes.held
+
+pub lost-requires : goal.lost-requires
+lost-requires c = rw c.as_slice.ensures (proper-apart (schema_of c.args.s.now) c.requires.proper)
