@@ -1,6 +1,7 @@
 //! Options and lists, whose values nest.
 
 ghost use Rattle.std.specs.List.{fold};
+ghost use Rattle.std.specs.Prelude.{◌≡◌, IfOk};
 ghost use Rattle.sc_data_tree.specs.Grammar as form;
 ghost use Rattle.sc_data_tree.specs.Grammar.{rule, Value, ◌⨾◌, listed};
 ghost use Rattle.sc_data_tree.specs.Texts.{first_of};
@@ -18,6 +19,16 @@ use sc_data_tree::Lit;
 use sc_lexer::TokenKind;
 use sc_syntax::{Cursor, Stop};
 use sqlite_items::{Boxed, Items};
+use std::alloc::{AllocError, Global};
+
+/// The same items, with no room for more: a long text may hold a million lists.
+fn fitted(alloc: Global, items: Items<Lit>) -> Result<Items<Lit>, AllocError>
+    ensures { IfOk result (λ fitted. fitted ≡ items) }
+{
+    let mut fitted = Items::new(alloc);
+    fitted.append(items)?;
+    Ok(fitted)
+}
 
 impl Values {
     /// A value in which others nest so many levels deep.
@@ -149,6 +160,6 @@ impl Values {
         let open = cursor.sign(TokenKind::BracketOpen)?;
         let items = self.values(cursor)?;
         cursor.sign(TokenKind::BracketClose)?;
-        Ok(Lit::List(items, open.at()))
+        Ok(Lit::List(fitted(self.alloc, items)?, open.at()))
     }
 }
