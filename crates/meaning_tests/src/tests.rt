@@ -19,6 +19,7 @@ use std::test::Fail;
 mod databases;
 mod formulas;
 mod members;
+mod moved;
 mod obligations;
 mod read_back;
 mod written;

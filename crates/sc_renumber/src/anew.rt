@@ -1,13 +1,19 @@
 //! The schema of the tree of a schema.
 
-ghost use Rattle.std.specs.Prelude.{◌≡◌, [], IfOk, Ok};
+ghost use Rattle.std.specs.Prelude.{◌≡◌, ◌<◌, ◌^◌, [], IfOk, OnOk, Ok};
+ghost use Rattle.sc_schema.specs.Proper.{IsProper};
 ghost use Rattle.sc_schema.specs.SchemaViews.{schema_of};
 ghost use Rattle.sc_typing.specs.Names.{plain_of};
 ghost use Rattle.sc_specs.specs.Specs.{typed_spec};
 ghost use Rattle.sc_proper.specs.Steady.{IsSteady};
+ghost use Rattle.sc_records.specs.Renumbered.{HasNewNumbers};
+ghost use Rattle.sc_renumbered.specs.Anew.{IsAnew};
+ghost use Rattle.sc_retyped.specs.Anew.{HasPoliciesAnew, KeepsRights};
+ghost use Rattle.sc_retyped.specs.Told.{IsTold};
 ghost use Rattle.sc_scripts.specs.Counted.{counted};
 ghost use Rattle.sc_written.specs.Specs.{written_spec};
 
+use sc_retyped::{counts_stay, policies_come_anew, rights_stay, schemas_come_anew, specs_are_told};
 use sc_schema::Schema;
 use sc_scripts::type_spec;
 use sc_spec_of::spec_of;
@@ -29,19 +35,45 @@ fn schema_of_tree(alloc: Global, spec: &Spec) -> Result<Schema, AllocError>
     }
 }
 
-/// The same schema numbered anew: it is written as the same tree, and numbered as typing numbers
-/// that tree. It is proper, and no field of it is an added one.
+/// The next numbers of a schema have 32 bits.
+fn next_numbers_fit(s: &Schema)
+    ensures models { (schema_of s.now).next_model < 2 ^ 32 }
+    ensures fields { (schema_of s.now).next_field < 2 ^ 32 }
+{
+    let _models = s.next_model;
+    let _fields = s.next_field;
+}
+
+/// The same schema numbered anew: it is written as the same tree, and its statics, models and
+/// fields have the numbers from 0 on in the order of the schema, the fields through all models. It
+/// is what typing gives of that tree, it is proper, and no field of it is an added one. Its
+/// policies are those of the schema with the new numbers, and give the rights that they gave, where
+/// the schema is told by its tree, as one is that typing gave, also after commands.
 pub fn renumber(alloc: Global, s: &Schema) -> Result<Schema, AllocError>
     ensures same_tree { IfOk result (λ anew. written_spec (schema_of anew)
         ≡ written_spec (schema_of s.now)) }
     ensures numbered { IfOk result (λ anew. typed_spec counted (written_spec (schema_of s.now))
         ≡ Ok (schema_of anew)) }
     ensures steady { IfOk result (λ anew. IsSteady (schema_of anew)) }
+    ensures told { IfOk result (λ anew. IsTold (schema_of anew)) }
     ensures nothing_added { IfOk result (λ anew. (schema_of anew).added ≡ []) }
+    ensures in_order { IfOk result (λ anew. IsProper (schema_of s.now)
+        → IsAnew (schema_of s.now) (schema_of anew)) }
+    ensures few { OnOk result (HasNewNumbers (schema_of s.now)) }
+    ensures policies { IfOk result (λ anew. IsProper (schema_of s.now)
+        → IsTold (schema_of s.now) → HasPoliciesAnew (schema_of s.now) (schema_of anew)) }
+    ensures rights { IfOk result (λ anew. IsProper (schema_of s.now)
+        → IsTold (schema_of s.now) → KeepsRights (schema_of s.now) (schema_of anew)) }
 {
     let spec = spec_of(alloc, s)?;
     let anew = schema_of_tree(alloc, &spec)?;
+    next_numbers_fit(&anew);
     specs_come_back();
     written_is_stripped();
+    specs_are_told();
+    counts_stay();
+    schemas_come_anew();
+    policies_come_anew();
+    rights_stay();
     Ok(anew)
 }

@@ -8,7 +8,8 @@ use sc_schema::{ModelInfo, Schema};
 use std::alloc::Global;
 use std::test::Fail;
 
-fn text(alloc: Global, bytes: &[u8]) -> Result<Value, Fail> {
+/// The text with these bytes, as a value.
+pub fn text(alloc: Global, bytes: &[u8]) -> Result<Value, Fail> {
     match Txt::make(Vec::from_slice(alloc, bytes)?) {
         Some(text) => Ok(Value::Str(text)),
         None => Err(Fail::new("no text")),
@@ -33,7 +34,7 @@ fn row(
 }
 
 /// Puts the record into the database.
-fn insert(
+pub fn insert(
     alloc: Global,
     database: &mut Database,
     info: &ModelInfo,

@@ -42,7 +42,7 @@ fn a_canonical_specification_comes_back(rt: HostRuntime) -> Result<(), Fail> {
 }
 
 /// Commands that change each part of a specification.
-const SCRIPT: &[u8] =
+pub const SCRIPT: &[u8] =
     b"User::AddField(level: Int {read: public, write: none}, u -> if u.isAdmin then 2 else 0)
     User::UpdateFieldPolicy(secret, {read: u -> User::Find({level >= 2})})
     User::RemoveField(isAdmin)
@@ -74,7 +74,7 @@ principal model Note {
 ";
 
 /// The schema after the last command.
-fn last_schema(t: &TScript) -> &Schema {
+pub fn last_schema(t: &TScript) -> &Schema {
     match t.schemas.as_slice().last() {
         Some(schema) => schema,
         None => &t.start,

@@ -1,7 +1,11 @@
-use Rattle.std.proofs.Common.{ap, ◌∙◌}
+use Rattle.std.proofs.Common.{◌≡◌, ap, ◌∙◌, subst, arith}
+use Rattle.std.specs.Prelude.{Ok}
+use Rattle.sc_tree.specs.declared.models.Spec.{Spec}
 use Rattle.sc_tree.specs.Stripped.{stripped_spec}
 use Rattle.sc_schema.specs.SchemaViews.{schema_of}
+use Rattle.sc_specs.specs.Specs.{typed_spec}
 use Rattle.sc_scripts.specs.Counted.{counted}
+use Rattle.sc_written.specs.Specs.{written_spec}
 use Rattle.sc_renumber.proofs.anew.renumber.Goals as goal
 
 pub returns-clause-same_tree : goal.returns-clause-same_tree
@@ -9,3 +13,31 @@ returns-clause-same_tree c =
     c.specs_come_back.ensures counted c.in_ok-spec.spec (schema_of c.in_ok-anew.anew) c.in_ok-anew.ensures.steady.proper c.in_ok-anew.ensures.typed
     ∙ ap stripped_spec c.in_ok-spec.ensures
     ∙ c.written_is_stripped.ensures (schema_of c.args.s.now)
+
+pub returns-clause-told : goal.returns-clause-told
+returns-clause-told c = c.specs_are_told.ensures counted c.in_ok-spec.spec (schema_of c.in_ok-anew.anew) c.in_ok-anew.ensures.typed
+
+pub returns-clause-in_order : goal.returns-clause-in_order
+returns-clause-in_order c = λ proper.
+    let typed : typed_spec counted (written_spec (schema_of c.args.s.now)) ≡ Ok (schema_of c.in_ok-anew.anew)
+    = subst (λ (z : Spec). typed_spec counted z ≡ Ok (schema_of c.in_ok-anew.anew)) c.in_ok-spec.ensures c.in_ok-anew.ensures.typed in
+    c.schemas_come_anew.ensures counted (schema_of c.args.s.now) (schema_of c.in_ok-anew.anew) proper typed
+
+pub returns-clause-few : goal.returns-clause-few
+returns-clause-few c =
+    let typed : typed_spec counted (written_spec (schema_of c.args.s.now)) ≡ Ok (schema_of c.in_ok-anew.anew)
+    = subst (λ (z : Spec). typed_spec counted z ≡ Ok (schema_of c.in_ok-anew.anew)) c.in_ok-spec.ensures c.in_ok-anew.ensures.typed in
+    let counts = c.counts_stay.ensures counted (schema_of c.args.s.now) (schema_of c.in_ok-anew.anew) typed in
+    record { models = omega (arith, counts.0, c.next_numbers_fit.ensures.models); fields = omega (arith, counts.1, c.next_numbers_fit.ensures.fields) }
+
+pub returns-clause-policies : goal.returns-clause-policies
+returns-clause-policies c = λ proper told.
+    let typed : typed_spec counted (written_spec (schema_of c.args.s.now)) ≡ Ok (schema_of c.in_ok-anew.anew)
+    = subst (λ (z : Spec). typed_spec counted z ≡ Ok (schema_of c.in_ok-anew.anew)) c.in_ok-spec.ensures c.in_ok-anew.ensures.typed in
+    c.policies_come_anew.ensures counted (schema_of c.args.s.now) (schema_of c.in_ok-anew.anew) proper told typed
+
+pub returns-clause-rights : goal.returns-clause-rights
+returns-clause-rights c = λ proper told.
+    let typed : typed_spec counted (written_spec (schema_of c.args.s.now)) ≡ Ok (schema_of c.in_ok-anew.anew)
+    = subst (λ (z : Spec). typed_spec counted z ≡ Ok (schema_of c.in_ok-anew.anew)) c.in_ok-spec.ensures c.in_ok-anew.ensures.typed in
+    c.rights_stay.ensures counted (schema_of c.args.s.now) (schema_of c.in_ok-anew.anew) proper told typed

@@ -1,0 +1,11 @@
+pub mod Anew
+pub mod Beside
+pub mod Exprs
+pub mod Found
+pub mod Kept
+pub mod Made
+pub mod Rights
+pub mod Scopes
+pub mod Sets
+pub mod TypedTrees
+pub mod Whole
