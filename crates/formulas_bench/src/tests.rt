@@ -1,8 +1,10 @@
 //! Truth and normal forms beside a plain reading, on formulas and structures that look random.
 //!
 //! - `random`: such formulas and structures.
+//! - `many`: a structure with many elements.
 //! - `plain`: the plain reading.
 
+mod many;
 mod plain;
 mod random;
 
