@@ -53,6 +53,7 @@ pub fn chain(alloc: Global, elements: u32, is_open: bool) -> Result<Problem, All
     })
 }
 
+/// One sort with a relation on it.
 fn signature(alloc: Global) -> Result<Signature, AllocError> {
     let sets = Items::from_slice(alloc, &[SetSig { from: 0, to: 0 }])?;
     signature_of(1, Items::new(alloc), sets)

@@ -49,6 +49,7 @@ fn total(from: u32, to: Range) -> FunSig {
     }
 }
 
+/// Users, groups, memberships and notes, by the fields that are read.
 fn signature(alloc: Global) -> Result<Signature, AllocError> {
     let funs = [
         total(MEMBERSHIP, Range::Rec(USER)),

@@ -40,6 +40,7 @@ pub fn pairs(alloc: Global, elements: u32, differ: bool) -> Result<Problem, Allo
     })
 }
 
+/// One sort with a flag.
 fn signature(alloc: Global) -> Result<Signature, AllocError> {
     let flag = FunSig {
         from: 0,

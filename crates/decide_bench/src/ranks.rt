@@ -51,6 +51,7 @@ pub fn ranks(alloc: Global, elements: u32, is_closed: bool) -> Result<Problem, A
     })
 }
 
+/// One sort with a number.
 fn signature(alloc: Global) -> Result<Signature, AllocError> {
     let number = FunSig {
         from: 0,

@@ -7,6 +7,7 @@ use sc_formula::{FunSig, Range, Signature};
 use sqlite_items::Items;
 use std::alloc::{AllocError, Global};
 
+/// Three sorts, with so many total functions from each of the first two to the next.
 fn signature(alloc: Global, count: u32) -> Result<Signature, AllocError> {
     let mut funs = Items::new(alloc);
     for from in 0..2_u32 {

@@ -69,7 +69,7 @@ impl Links {
     }
 }
 
-// The numbers below `count`, in order.
+/// The numbers below `count`, in order.
 fn numbers(alloc: Global, count: usize) -> Result<Vec<usize>, AllocError>
     ensures count { IfOk result (λ v. length v.items ≡ count) }
     ensures own { IfOk result (λ v. EachIndex v.items (λ i. slice_index v.items i ≡ i)) }

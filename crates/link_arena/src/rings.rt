@@ -120,7 +120,7 @@ impl Rings {
     }
 }
 
-// The node of this number, unless it is the number of a list.
+/// The node of this number, unless it is the number of a list.
 fn node_at(at: usize, nodes: usize) -> Option<u32>
     requires { nodes < 2 ^ 32 }
     ensures { result ≡ (if nat_lt at nodes then Some at else None) }

@@ -65,18 +65,21 @@ impl Name {
     }
 }
 
+/// Whether a byte is an ASCII letter.
 fn is_letter(byte: u8) -> bool
     ensures { result ≡ is_letter byte }
 {
     matches!(byte, b'A'..=b'Z' | b'a'..=b'z')
 }
 
+/// Whether a byte may stand in a name: an ASCII letter, a digit or `_`.
 fn is_name_byte(byte: u8) -> bool
     ensures { result ≡ is_name_byte byte }
 {
     is_letter(byte) || matches!(byte, b'0'..=b'9') || byte == b'_'
 }
 
+/// Whether the first byte is a letter.
 fn begins_with_letter(bytes: &[u8]) -> bool
     ensures { result ≡ begins_with_letter bytes.now }
 {
@@ -86,12 +89,14 @@ fn begins_with_letter(bytes: &[u8]) -> bool
     }
 }
 
+/// Whether each byte may stand in a name.
 fn are_name_bytes(bytes: &[u8]) -> bool
     ensures { result ≡ list_all is_name_byte bytes.now }
 {
     bytes.iter().all(|byte| is_name_byte(*byte))
 }
 
+/// Whether the bytes are a name.
 fn is_name(bytes: &[u8]) -> bool
     ensures { result ≡ is_name bytes.now }
 {

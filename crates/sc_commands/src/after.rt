@@ -19,6 +19,7 @@ use sc_typing::TypeErr;
 use std::alloc::{AllocError, Global};
 use std::rc::Rc;
 
+/// The same policy, if one is given. It is shared.
 fn copy_given(given: &Given) -> Result<Given, AllocError>
     ensures { IfOk result (λ copy. option_map (λ p. policy_of p.value) copy
         ≡ option_map (λ p. policy_of p.value) given.now) }
@@ -29,6 +30,7 @@ fn copy_given(given: &Given) -> Result<Given, AllocError>
     }
 }
 
+/// The schema with a new model.
 fn after_model(alloc: Global, schema: &Schema, info: &ModelInfo) -> Result<Schema, TypeErr>
     ensures { GivesSeen plain_of
         (Ok (effect.schema_after (plain_of schema.now)
@@ -40,6 +42,7 @@ fn after_model(alloc: Global, schema: &Schema, info: &ModelInfo) -> Result<Schem
     Ok(after)
 }
 
+/// The schema with a new static.
 fn after_static(alloc: Global, schema: &Schema, info: &StaticInfo) -> Result<Schema, TypeErr>
     ensures { GivesSeen plain_of
         (Ok (effect.schema_after (plain_of schema.now)
@@ -71,6 +74,7 @@ fn push_added(
     Ok(())
 }
 
+/// The schema with a new field of a model, which it notes with its initialiser.
 fn after_field(
     alloc: Global,
     schema: &Schema,
@@ -88,6 +92,7 @@ fn after_field(
     Ok(after)
 }
 
+/// The schema without a field of a model.
 fn after_removed_field(
     alloc: Global,
     schema: &Schema,
@@ -100,6 +105,7 @@ fn after_removed_field(
     changed(alloc, schema, model, &Change::WithoutField(field))
 }
 
+/// The schema with the policies of a field that are given.
 fn after_field_policies(
     alloc: Global,
     schema: &Schema,
@@ -122,6 +128,7 @@ fn after_field_policies(
     )
 }
 
+/// The schema with the policies of a model that are given.
 fn after_policies(
     alloc: Global,
     schema: &Schema,

@@ -17,6 +17,7 @@ use sc_tree::{Command, FieldDef, Init, ModelDef, Named, Policy, Reason};
 use sc_typing::{TypeErr, is_principal};
 use std::alloc::Global;
 
+/// A new model.
 #[tactic(auto, unfolding(crate::specs::Resolved::created))]
 fn created(alloc: Global, schema: &Schema, d: &ModelDef) -> Result<TCommand, TypeErr>
     ensures { GivesSeen command_of (rule.created (plain_of schema.now) d.now) result }
@@ -24,6 +25,7 @@ fn created(alloc: Global, schema: &Schema, d: &ModelDef) -> Result<TCommand, Typ
     Ok(TCommand::CreateModel(created_model(alloc, schema, d)?))
 }
 
+/// A new static.
 #[tactic(auto, unfolding(crate::specs::Resolved::added_static))]
 fn added_static(alloc: Global, schema: &Schema, x: &Named) -> Result<TCommand, TypeErr>
     ensures { GivesSeen command_of (rule.added_static (plain_of schema.now) x.now) result }
@@ -32,6 +34,7 @@ fn added_static(alloc: Global, schema: &Schema, x: &Named) -> Result<TCommand, T
     Ok(TCommand::AddStatic(next_static(alloc, schema, x)?))
 }
 
+/// A model that becomes one of principals, and is not yet.
 #[tactic(auto, unfolding(crate::specs::Resolved::new_principal))]
 fn new_principal(schema: &Schema, model: &Named) -> Result<TCommand, TypeErr>
     ensures { GivesSeen command_of (rule.new_principal (plain_of schema.now) model.now) result }
@@ -43,6 +46,7 @@ fn new_principal(schema: &Schema, model: &Named) -> Result<TCommand, TypeErr>
     Ok(TCommand::AddPrincipal(m))
 }
 
+/// A model that nothing uses.
 #[tactic(auto, unfolding(crate::specs::Resolved::removed_model))]
 fn removed_model(schema: &Schema, model: &Named) -> Result<TCommand, TypeErr>
     ensures { GivesSeen command_of (rule.removed_model (plain_of schema.now) model.now) result }
@@ -52,6 +56,7 @@ fn removed_model(schema: &Schema, model: &Named) -> Result<TCommand, TypeErr>
     Ok(TCommand::DeleteModel(m))
 }
 
+/// A static that nothing lists.
 #[tactic(auto, unfolding(crate::specs::Resolved::removed_static))]
 fn removed_static(schema: &Schema, x: &Named) -> Result<TCommand, TypeErr>
     ensures { GivesSeen command_of (rule.removed_static (plain_of schema.now) x.now) result }
@@ -61,6 +66,7 @@ fn removed_static(schema: &Schema, x: &Named) -> Result<TCommand, TypeErr>
     Ok(TCommand::RemoveStatic(n))
 }
 
+/// A field that nothing reads.
 #[tactic(auto, unfolding(crate::specs::Resolved::removed_field))]
 fn removed_field(schema: &Schema, model: &Named, x: &Named) -> Result<TCommand, TypeErr>
     ensures { GivesSeen command_of
@@ -88,6 +94,7 @@ fn field_seen(
     typed_field(alloc, Stage::Policies, &known, m, number, f)
 }
 
+/// A new field of a model, with what it is at first.
 #[tactic(auto, unfolding(crate::specs::Resolved::added_field))]
 fn added_field(
     alloc: Global,
@@ -107,6 +114,7 @@ fn added_field(
     Ok(TCommand::AddField(m, field, first))
 }
 
+/// New policies of a field.
 #[tactic(auto, unfolding(crate::specs::Resolved::updated_field))]
 fn updated_field(
     alloc: Global,
@@ -126,6 +134,7 @@ fn updated_field(
     Ok(TCommand::UpdateFieldPolicy(m, f, read, write))
 }
 
+/// New policies of a field that may allow more, and why.
 #[tactic(auto, unfolding(crate::specs::Resolved::weakened_field))]
 fn weakened_field(
     alloc: Global,
@@ -147,6 +156,7 @@ fn weakened_field(
     Ok(TCommand::WeakenFieldPolicy(m, f, read, write, text))
 }
 
+/// New policies of a model.
 #[tactic(auto, unfolding(crate::specs::Resolved::updated_model))]
 fn updated_model(
     alloc: Global,
@@ -164,6 +174,7 @@ fn updated_model(
     Ok(TCommand::UpdatePolicy(m, create, delete))
 }
 
+/// New policies of a model that may allow more, and why.
 #[tactic(auto, unfolding(crate::specs::Resolved::weakened_model))]
 fn weakened_model(
     alloc: Global,

@@ -9,6 +9,7 @@ use crate::thing::Thing;
 use sc_schema::{FieldNo, ModelNo, StaticNo, TBase, TExpr, TFilter, TItem, TPolicy, TSet, TTy};
 
 impl Thing {
+    /// Whether it is this field of this model.
     fn is_field(self, model: ModelNo, field: FieldNo) -> bool
         ensures { result ≡ rule.is_field self model field }
     {
@@ -18,6 +19,7 @@ impl Thing {
         }
     }
 
+    /// Whether it is this model.
     fn is_model(self, model: ModelNo) -> bool
         ensures { result ≡ rule.is_model self model }
     {
@@ -27,6 +29,7 @@ impl Thing {
         }
     }
 
+    /// Whether it is this static.
     fn is_static(self, number: StaticNo) -> bool
         ensures { result ≡ rule.is_static self number }
     {
@@ -100,6 +103,7 @@ fn items_use(items: &[TItem], thing: Thing) -> bool
     false
 }
 
+/// The same of an item.
 #[cycle(uses)]
 fn item_uses(item: &TItem, thing: Thing) -> bool
     ensures { (rest : Items) → rule.items_use thing (view.item_of item.now rest)
@@ -125,6 +129,7 @@ fn filters_use(filters: &[TFilter], model: ModelNo, thing: Thing) -> bool
     false
 }
 
+/// The same of a filter on records of the model.
 #[cycle(uses)]
 fn filter_uses(filter: &TFilter, model: ModelNo, thing: Thing) -> bool
     ensures { (rest : Filters) → rule.filters_use thing model (view.filter_of filter.now rest)
@@ -145,6 +150,7 @@ pub fn policy_uses(policy: &TPolicy, thing: Thing) -> bool
     }
 }
 
+/// Whether a base type is ids of the model.
 fn base_uses(base: TBase, thing: Thing) -> bool
     ensures { result ≡ rule.base_uses thing base }
 {

@@ -16,18 +16,21 @@ use sc_schema::{ModelNo, TBase, TTy};
 /// The last id of a record.
 const LAST_ID: u64 = 9_223_372_036_854_775_806;
 
+/// Whether a number can be an id: from 1 to the last.
 fn is_id(id: u64) -> bool
     ensures { IsTrue result ↔ IsId id }
 {
     1 <= id && id <= LAST_ID
 }
 
+/// Whether each number can be an id.
 fn are_in_range(ids: &[u64]) -> bool
     ensures { result ≡ list_all (λ id. nat_le 1 id && nat_le id plain.last_id) ids.now }
 {
     ids.iter().all(|id| 1 <= *id && *id <= LAST_ID)
 }
 
+/// Whether each number can be an id.
 fn are_ids(ids: &[u64]) -> bool
     ensures { IsTrue result ↔ AllByRecursion IsId ids.now }
 {
@@ -124,6 +127,7 @@ pub(crate) fn is_value(v: &Value, t: TTy) -> bool
     }
 }
 
+/// Whether each id is one of a record of the model.
 fn has_all(database: &Database, m: ModelNo, ids: &[u64]) -> bool
     ensures { result ≡ list_all (λ id. has_record database.now m id) ids.now }
 {

@@ -42,6 +42,7 @@ fn is_rising(records: &[Record]) -> bool
     true
 }
 
+/// Whether each id is below the next one to be given.
 fn are_below(records: &[Record], next: u64) -> bool
     ensures { result ≡ list_all (λ r. nat_lt r.id next) records.now }
 {

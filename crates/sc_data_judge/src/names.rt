@@ -18,6 +18,7 @@ pub(crate) fn same_name(a: &[u8], b: &[u8]) -> bool
     a == b
 }
 
+/// The first field of that name.
 fn field_among<'s>(fields: &'s [FieldInfo], name: &[u8]) -> Option<&'s FieldInfo>
     ensures { option_copied result ≡ find (λ f. bytes_eq f.name name.now) fields.now }
 {
@@ -32,6 +33,7 @@ pub(crate) fn field_named<'s>(fields: &'s [FieldInfo], name: &[u8]) -> Option<&'
     field_among(fields, name)
 }
 
+/// The first model of that name.
 fn model_among<'s>(models: &'s [ModelInfo], name: &[u8]) -> Option<&'s ModelInfo>
     ensures { option_copied result ≡ find (λ m. bytes_eq m.name name.now) models.now }
 {

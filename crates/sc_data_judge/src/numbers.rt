@@ -24,6 +24,7 @@ impl Model for Numbers {
 }
 
 impl Numbers {
+    /// No number.
     pub(crate) fn new(alloc: Global) -> Numbers
         ensures { result ≡ [] }
     {

@@ -82,6 +82,7 @@ pub(crate) fn relates(structure: &Structure, r: u32, x: u32, y: u32) -> bool
     }
 }
 
+/// Whether the pair is listed.
 fn has_pair(pairs: &[(u32, u32)], x: u32, y: u32) -> bool
     ensures { result ≡ list_any (λ pair. (pair.0 == x) && (pair.1 == y)) pairs.now }
 {

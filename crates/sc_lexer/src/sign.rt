@@ -7,6 +7,7 @@ use crate::front::Front;
 use crate::lex_err::{Cause, Fault};
 use crate::token::TokenKind;
 
+/// The sign of two bytes, if they are one.
 fn two_byte_sign(first: u8, second: u8) -> Option<TokenKind>
     ensures { result ≡ two_byte_sign first second }
 {
@@ -23,6 +24,7 @@ fn two_byte_sign(first: u8, second: u8) -> Option<TokenKind>
     }
 }
 
+/// The sign of one byte, if it is one.
 fn one_byte_sign(byte: u8) -> Option<TokenKind>
     ensures { result ≡ one_byte_sign byte }
 {

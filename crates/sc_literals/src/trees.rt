@@ -83,6 +83,7 @@ fn read_items(items: &[TItem])
     }
 }
 
+/// Reads the literals of an item.
 #[cycle(literals)]
 fn read_item(item: &TItem)
     ensures { (rest : Items) → rule.ItemsHaveLiterals rest
@@ -104,6 +105,7 @@ fn read_filters(filters: &[TFilter])
     }
 }
 
+/// Reads the literals of a filter.
 #[cycle(literals)]
 fn read_filter(filter: &TFilter)
     ensures { (rest : Filters) → rule.FiltersHaveLiterals rest

@@ -141,6 +141,7 @@ fn add_items(uses: &mut Vec<Use>, items: &[TItem]) -> Result<(), AllocError>
     Ok(())
 }
 
+/// Puts the uses in an item last.
 #[cycle(uses)]
 fn add_item(uses: &mut Vec<Use>, item: &TItem) -> Result<(), AllocError>
     ensures { OnOk result ((rest : Items) → map use_data uses.new.items ++ rule.item_uses_of rest
@@ -164,6 +165,7 @@ fn add_filters(uses: &mut Vec<Use>, m: ModelNo, filters: &[TFilter]) -> Result<(
     Ok(())
 }
 
+/// Puts the uses in a filter on records of a model last, the filter's field behind its value.
 #[cycle(uses)]
 fn add_filter(uses: &mut Vec<Use>, m: ModelNo, filter: &TFilter) -> Result<(), AllocError>
     ensures { OnOk result ((rest : Filters)

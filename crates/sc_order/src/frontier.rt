@@ -28,6 +28,7 @@ pub struct Reach {
     pub via: u32,
 }
 
+/// What stands at a vertex that was not reached.
 fn no_reach() -> Reach
     ensures { result ≡ unreached }
 {

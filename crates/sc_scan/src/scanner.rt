@@ -58,6 +58,7 @@ fn minus(number: u64) -> i64
     -((number - 1) as i64) - 1
 }
 
+/// Whether a byte may stand in a name.
 fn is_name_byte(byte: u8) -> bool
     ensures { result ≡ is_name_byte byte }
 {

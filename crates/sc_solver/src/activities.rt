@@ -110,12 +110,14 @@ impl Activities {
         count
     }
 
+    /// Notes where the clause of a slot goes.
     fn move_to(&mut self, from: usize, to: usize) {
         if from < self.moves.len() {
             self.moves[from] = Some(to);
         }
     }
 
+    /// A slot's score, 0 behind the last.
     fn score(&self, slot: usize) -> u64 {
         if slot < self.scores.len() {
             self.scores[slot]
@@ -124,6 +126,7 @@ impl Activities {
         }
     }
 
+    /// Sets a slot's score.
     fn set(&mut self, slot: usize, score: u64) {
         if slot < self.scores.len() {
             self.scores[slot] = score;

@@ -14,6 +14,7 @@ use sc_tree::{Base, FieldDef, ModelDef, Policy, Ty};
 use sqlite_items::Items;
 use std::alloc::{AllocError, Global};
 
+/// A policy as a tree.
 fn written_policy(alloc: Global, s: &Schema, policy: &TPolicy) -> Result<Policy, AllocError>
     ensures { IfOk result (λ x. x
         ≡ rule.written_policy (names_in (schema_of s.now)) (view.policy_of policy.now)) }
@@ -46,6 +47,7 @@ fn written_policies(
     Ok((one, other))
 }
 
+/// A base type as a tree.
 fn written_base(alloc: Global, s: &Schema, t: TBase) -> Result<Base, AllocError>
     ensures { IfOk result (λ x. x ≡ spec.written_base (names_in (schema_of s.now)) t) }
 {
@@ -60,6 +62,7 @@ fn written_base(alloc: Global, s: &Schema, t: TBase) -> Result<Base, AllocError>
     }
 }
 
+/// A type as a tree.
 fn written_type(alloc: Global, s: &Schema, t: TTy) -> Result<Ty, AllocError>
     ensures { IfOk result (λ x. x ≡ spec.written_type (names_in (schema_of s.now)) t) }
 {
@@ -79,6 +82,7 @@ fn written_type(alloc: Global, s: &Schema, t: TTy) -> Result<Ty, AllocError>
     }
 }
 
+/// A field as a tree.
 fn written_field(alloc: Global, s: &Schema, info: &FieldInfo) -> Result<FieldDef, AllocError>
     ensures { IfOk result (λ x. x
         ≡ spec.written_field (names_in (schema_of s.now)) (field_info_of info.now)) }
@@ -94,6 +98,7 @@ fn written_field(alloc: Global, s: &Schema, info: &FieldInfo) -> Result<FieldDef
     })
 }
 
+/// Fields as trees.
 fn written_fields(
     alloc: Global,
     s: &Schema,

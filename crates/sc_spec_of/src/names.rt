@@ -11,18 +11,21 @@ use sc_schema::{FieldInfo, FieldNo, ModelInfo, ModelNo, Schema, StaticInfo, Stat
 use sc_tree::Named;
 use std::alloc::{AllocError, Global};
 
+/// The model of that number.
 fn model_among(models: &[ModelInfo], number: ModelNo) -> Option<&ModelInfo>
     ensures { option_copied result ≡ find (λ m. m.number == number) models.now }
 {
     models.iter().find(|m| m.number == number)
 }
 
+/// The field of that number.
 fn field_among(fields: &[FieldInfo], number: FieldNo) -> Option<&FieldInfo>
     ensures { option_copied result ≡ find (λ f. f.number == number) fields.now }
 {
     fields.iter().find(|f| f.number == number)
 }
 
+/// The static of that number.
 fn static_among(statics: &[StaticInfo], number: StaticNo) -> Option<&StaticInfo>
     ensures { option_copied result ≡ find (λ n. n.number == number) statics.now }
 {

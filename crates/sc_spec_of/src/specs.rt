@@ -13,6 +13,7 @@ use sc_tree::{ModelDef, Named, Spec};
 use sqlite_items::Items;
 use std::alloc::{AllocError, Global};
 
+/// Statics as trees.
 fn written_statics(alloc: Global, statics: &[StaticInfo]) -> Result<Items<Named>, AllocError>
     ensures { IfOk result (λ xs. xs
         ≡ map (λ n. name.named n.name) (map static_info_of statics.now)) }
@@ -25,6 +26,7 @@ fn written_statics(alloc: Global, statics: &[StaticInfo]) -> Result<Items<Named>
     Ok(Items::from_vec(all))
 }
 
+/// Models as trees.
 fn written_models(
     alloc: Global,
     s: &Schema,

@@ -60,6 +60,7 @@ pub fn new_model(schema: &Schema, x: &Named) -> Result<(), TypeErr>
     one_more(taken, schema.models.len(), MOST_MODELS, x)
 }
 
+/// Whether a field of this name is among them.
 fn has_field(fields: &[FieldDef], name: &[u8]) -> bool
     ensures { result ≡ list_any (λ f. bytes_eq f.name.name name.now) fields.now }
 {

@@ -38,6 +38,7 @@ fn with_static(alloc: Global, schema: &mut Schema, x: &Named) -> Result<(), Type
     push_static(schema, info)
 }
 
+/// The schema without statics and models.
 #[tactic(auto, unfolding(sc_typing::specs::Names::plain_of))]
 fn empty_schema(alloc: Global) -> Schema
     ensures { plain_of result ≡ rule.empty_schema }

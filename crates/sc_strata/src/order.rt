@@ -57,6 +57,7 @@ fn last_unfinished(
     Ok(None)
 }
 
+/// Whether a sort and all that it reaches are in order.
 fn is_done(marks: &[Mark], v: u32) -> bool
     requires { v < length marks.now }
     ensures { IsTrue result ↔ (mark_at marks.now v ≡ Mark.Done) }
@@ -64,6 +65,7 @@ fn is_done(marks: &[Mark], v: u32) -> bool
     matches!(marks[v as usize], Mark::Done)
 }
 
+/// Whether a sort is on the way that is followed.
 fn is_open(marks: &[Mark], v: u32) -> bool
     requires { v < length marks.now }
     ensures { IsTrue result ↔ (mark_at marks.now v ≡ Mark.Open) }

@@ -31,6 +31,7 @@ impl<
     E: Fn(Global, &mut Cursor<'_>, u32) -> Result<Boxed<Expr>, Stop>,
     S: Fn(Global, &mut Cursor<'_>, u32) -> Result<Boxed<SetExpr>, Stop>,
 > Grammar<E, S> {
+    /// A variable, or an expression in parentheses.
     #[tactic(auto, unfolding(sc_forms::specs::Reading::read, sc_tree::specs::ExprGrammar::path_root))]
     fn path_root(&self, cursor: &mut Cursor<'_>) -> Result<Boxed<Expr>, Stop>
         requires { Nests self.now.levels
@@ -89,6 +90,7 @@ impl<
         cursor.unless(TokenKind::Dot, of)
     }
 
+    /// A variable or an expression in parentheses, and fields of it.
     #[tactic(auto, using(crate::proofs::Folds::made_made), unfolding(sc_forms::specs::Reading::read, sc_tree::specs::ExprGrammar::path))]
     pub fn path(&self, cursor: &mut Cursor<'_>) -> Result<Boxed<Expr>, Stop>
         requires { Nests self.now.levels
@@ -100,6 +102,7 @@ impl<
         self.fields(cursor, root)
     }
 
+    /// `true` or `false`.
     #[tactic(auto, unfolding(sc_forms::specs::Reading::read, sc_tree::specs::ExprGrammar::flag))]
     fn flag(&self, cursor: &mut Cursor<'_>) -> Result<Boxed<Expr>, Stop>
         ensures { Reads (reading self.now.levels form.flag cursor.old) result cursor.new }
@@ -112,6 +115,7 @@ impl<
         Ok(Boxed::new(self.alloc, Expr::Flag(false, word.at()))?)
     }
 
+    /// A number, with a minus before it or none.
     #[tactic(auto, unfolding(sc_forms::specs::Reading::read, sc_tree::specs::ExprGrammar::number))]
     fn number(&self, cursor: &mut Cursor<'_>) -> Result<Boxed<Expr>, Stop>
         ensures { Reads (reading self.now.levels form.number cursor.old) result cursor.new }
@@ -127,6 +131,7 @@ impl<
         Ok(Boxed::new(self.alloc, number)?)
     }
 
+    /// A text in quotes.
     #[tactic(auto, unfolding(sc_forms::specs::Reading::read, sc_tree::specs::ExprGrammar::literal))]
     fn literal(&self, cursor: &mut Cursor<'_>) -> Result<Boxed<Expr>, Stop>
         ensures { Reads (reading self.now.levels form.literal cursor.old) result cursor.new }
@@ -136,6 +141,7 @@ impl<
         Ok(Boxed::new(self.alloc, Expr::Str(text, token.at()))?)
     }
 
+    /// `none`, or `some` of an expression.
     #[tactic(auto, unfolding(sc_forms::specs::Reading::read, sc_tree::specs::ExprGrammar::option))]
     fn option(&self, cursor: &mut Cursor<'_>) -> Result<Boxed<Expr>, Stop>
         requires { Nests self.now.levels
@@ -154,6 +160,7 @@ impl<
         Ok(Boxed::new(self.alloc, Expr::SomeLit(inner, word.at()))?)
     }
 
+    /// An expression that no operator goes through.
     #[tactic(auto, unfolding(sc_forms::specs::Reading::read, sc_tree::specs::ExprGrammar::atom))]
     pub fn atom(&self, cursor: &mut Cursor<'_>) -> Result<Boxed<Expr>, Stop>
         requires { Nests self.now.levels

@@ -68,6 +68,7 @@ impl<
         self.last_step(cursor, of)
     }
 
+    /// `Find`, and the steps after it.
     #[tactic(auto, using(crate::proofs::Folds::made_made), unfolding(sc_forms::specs::Reading::read, sc_tree::specs::ExprGrammar::found))]
     pub fn found(&self, cursor: &mut Cursor<'_>) -> Result<Boxed<SetExpr>, Stop>
         requires { Nests self.now.levels
@@ -178,6 +179,7 @@ impl<
         self.last_field(cursor, of, at)
     }
 
+    /// A variable, its fields, and the steps after them.
     #[tactic(auto, using(crate::proofs::Folds::made_made), unfolding(sc_forms::specs::Reading::read, sc_tree::specs::ExprGrammar::path_chain))]
     pub fn path_chain(&self, cursor: &mut Cursor<'_>) -> Result<Boxed<SetExpr>, Stop>
         requires { Nests self.now.levels

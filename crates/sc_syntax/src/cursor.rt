@@ -66,6 +66,7 @@ fn is_spent(stop: Stop) -> bool
     }
 }
 
+/// Whether a token is the name of a static or a model.
 #[tactic(auto, unfolding(sc_tree::specs::Forms::admits))]
 fn is_upper(piece: &Piece<'_>) -> bool
     ensures value { result ≡ admits Upper piece.now }
@@ -74,6 +75,7 @@ fn is_upper(piece: &Piece<'_>) -> bool
     same_kind(piece.kind(), TokenKind::Upper) && !is_reserved_upper(piece.bytes())
 }
 
+/// Whether a token is the name of a field or a variable.
 #[tactic(auto, unfolding(sc_tree::specs::Forms::admits))]
 fn is_lower(piece: &Piece<'_>) -> bool
     ensures value { result ≡ admits Lower piece.now }
@@ -82,6 +84,7 @@ fn is_lower(piece: &Piece<'_>) -> bool
     same_kind(piece.kind(), TokenKind::Lower) && !is_reserved_lower(piece.bytes())
 }
 
+/// Whether a token is a number without a sign.
 #[tactic(auto, unfolding(sc_tree::specs::Forms::admits))]
 fn is_plain(piece: &Piece<'_>) -> bool
     ensures value { result ≡ admits Plain piece.now }
@@ -91,6 +94,7 @@ fn is_plain(piece: &Piece<'_>) -> bool
     same_kind(piece.kind(), TokenKind::Number) && piece.number() <= LARGEST_PLAIN
 }
 
+/// Whether a token may stand after a minus: a number other than 0.
 #[tactic(auto, unfolding(sc_tree::specs::Forms::admits))]
 fn is_negated(piece: &Piece<'_>) -> bool
     ensures value { result ≡ admits Negated piece.now }

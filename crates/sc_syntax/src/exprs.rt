@@ -23,6 +23,7 @@ impl<
     E: Fn(Global, &mut Cursor<'_>, u32) -> Result<Boxed<Expr>, Stop>,
     S: Fn(Global, &mut Cursor<'_>, u32) -> Result<Boxed<SetExpr>, Stop>,
 > Grammar<E, S> {
+    /// An atom, with `!` before it or none.
     #[tactic(auto, unfolding(sc_forms::specs::Reading::read, sc_tree::specs::ExprGrammar::unary))]
     fn unary(&self, cursor: &mut Cursor<'_>) -> Result<Boxed<Expr>, Stop>
         requires { Nests self.now.levels
@@ -38,6 +39,7 @@ impl<
         Ok(Boxed::new(self.alloc, Expr::Not(inner, not.at()))?)
     }
 
+    /// The sign of a comparison.
     #[tactic(auto, unfolding(sc_forms::specs::Reading::read, sc_tree::specs::ExprGrammar::cmp_op))]
     pub fn cmp_op(&self, cursor: &mut Cursor<'_>) -> Result<CmpOp, Stop>
         ensures { Reads (reading self.now.levels form.cmp_op cursor.old) result cursor.new }
@@ -136,6 +138,7 @@ impl<
         Ok(left)
     }
 
+    /// An expression, and what it is compared with, if it is.
     #[tactic(auto, using(crate::proofs::Folds::made_made), unfolding(sc_forms::specs::Reading::read, sc_tree::specs::ExprGrammar::compared))]
     fn compared(&self, cursor: &mut Cursor<'_>) -> Result<Boxed<Expr>, Stop>
         requires { Nests self.now.levels
@@ -182,6 +185,7 @@ impl<
         cursor.unless(TokenKind::AndAnd, left)
     }
 
+    /// Comparisons with `&&` between.
     #[tactic(auto, using(crate::proofs::Folds::made_made), unfolding(sc_forms::specs::Reading::read, sc_tree::specs::ExprGrammar::conjunction))]
     fn conjunction(&self, cursor: &mut Cursor<'_>) -> Result<Boxed<Expr>, Stop>
         requires { Nests self.now.levels
@@ -228,6 +232,7 @@ impl<
         cursor.unless(TokenKind::OrOr, left)
     }
 
+    /// Conjunctions with `||` between.
     #[tactic(auto, using(crate::proofs::Folds::made_made), unfolding(sc_forms::specs::Reading::read, sc_tree::specs::ExprGrammar::disjunction))]
     fn disjunction(&self, cursor: &mut Cursor<'_>) -> Result<Boxed<Expr>, Stop>
         requires { Nests self.now.levels
@@ -269,6 +274,7 @@ impl<
         Ok((one, other))
     }
 
+    /// An expression by a test.
     #[tactic(auto, unfolding(sc_forms::specs::Reading::read, sc_tree::specs::ExprGrammar::if_expr))]
     fn if_expr(&self, cursor: &mut Cursor<'_>) -> Result<Boxed<Expr>, Stop>
         requires { Nests self.now.levels
@@ -329,6 +335,7 @@ impl<
         Ok((word, some))
     }
 
+    /// An expression by whether there is some.
     #[tactic(auto, unfolding(sc_forms::specs::Reading::read, sc_tree::specs::ExprGrammar::match_expr))]
     fn match_expr(&self, cursor: &mut Cursor<'_>) -> Result<Boxed<Expr>, Stop>
         requires { Nests self.now.levels

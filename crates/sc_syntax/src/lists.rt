@@ -21,6 +21,7 @@ impl<
     E: Fn(Global, &mut Cursor<'_>, u32) -> Result<Boxed<Expr>, Stop>,
     S: Fn(Global, &mut Cursor<'_>, u32) -> Result<Boxed<SetExpr>, Stop>,
 > Grammar<E, S> {
+    /// A static or an expression.
     #[tactic(auto, unfolding(sc_forms::specs::Reading::read, sc_tree::specs::ExprGrammar::item_form))]
     fn item(&self, cursor: &mut Cursor<'_>) -> Result<Item, Stop>
         requires { Nests self.now.levels
@@ -106,6 +107,7 @@ impl<
         Ok(Items::new(self.alloc))
     }
 
+    /// Items in brackets.
     #[tactic(auto, unfolding(sc_forms::specs::Reading::read, sc_tree::specs::ExprGrammar::list))]
     pub fn list(&self, cursor: &mut Cursor<'_>) -> Result<Boxed<SetExpr>, Stop>
         requires { Nests self.now.levels
@@ -119,6 +121,7 @@ impl<
         Ok(Boxed::new(self.alloc, SetExpr::List(items, open.at()))?)
     }
 
+    /// The sign of a filter: a colon, `has` or a comparison.
     #[tactic(auto, unfolding(sc_forms::specs::Reading::read, sc_tree::specs::ExprGrammar::filter_op))]
     fn filter_op(&self, cursor: &mut Cursor<'_>) -> Result<FilterOp, Stop>
         ensures { Reads (reading self.now.levels form.filter_op cursor.old) result cursor.new }
@@ -134,6 +137,7 @@ impl<
         Ok(FilterOp::Cmp(self.cmp_op(cursor)?))
     }
 
+    /// A field, a sign and a value.
     #[tactic(auto, unfolding(sc_forms::specs::Reading::read, sc_tree::specs::ExprGrammar::filter_form))]
     fn filter(&self, cursor: &mut Cursor<'_>) -> Result<Filter, Stop>
         requires { Nests self.now.levels
@@ -232,6 +236,7 @@ impl<
         Ok(Items::new(self.alloc))
     }
 
+    /// The records of a model that meet filters.
     #[tactic(auto, unfolding(sc_forms::specs::Reading::read, sc_tree::specs::ExprGrammar::find))]
     pub fn find(&self, cursor: &mut Cursor<'_>) -> Result<Boxed<SetExpr>, Stop>
         requires { Nests self.now.levels

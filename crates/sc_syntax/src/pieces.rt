@@ -44,6 +44,7 @@ impl<'a> Piece<'a> {
         Piece { text, token }
     }
 
+    /// Its kind.
     pub fn kind(&self) -> TokenKind
         ensures { result ≡ self.now.kind }
     {
@@ -57,6 +58,7 @@ impl<'a> Piece<'a> {
         self.token.at
     }
 
+    /// Its bytes.
     pub fn bytes(&self) -> &'a [u8]
         ensures bytes { result.now ≡ self.now.bytes }
         ensures lexeme { IsLexeme (record { kind = self.now.kind; bytes = self.now.bytes }) }

@@ -4,6 +4,7 @@ ghost use Rattle.std.specs.Prelude.{◌≡◌};
 ghost use Rattle.std.specs.Str.{bytes_eq};
 ghost use Rattle.sc_ast.specs.Words as words;
 
+/// Whether a word is this reserved one.
 fn is(word: &[u8], reserved: &[u8]) -> bool
     ensures { result ≡ bytes_eq word.now reserved.now }
 {
@@ -39,6 +40,7 @@ pub fn is_reserved_lower(word: &[u8]) -> bool
         || is(word, b"self")
 }
 
+/// Whether a word names a type or is `Find`.
 #[tactic(auto, unfolding(sc_ast::specs::Words::is_type_word))]
 fn is_type_word(word: &[u8]) -> bool
     ensures { result ≡ words.is_type_word word.now }
@@ -52,6 +54,7 @@ fn is_type_word(word: &[u8]) -> bool
         || is(word, b"Find")
 }
 
+/// Whether a word names a command.
 #[tactic(auto, unfolding(sc_ast::specs::Words::is_command_word))]
 fn is_command_word(word: &[u8]) -> bool
     ensures { result ≡ words.is_command_word word.now }

@@ -58,6 +58,7 @@ impl<
         Ok((word, each))
     }
 
+    /// The set of what an expression is at each element of the set before it.
     #[tactic(auto, unfolding(sc_forms::specs::Reading::read, sc_tree::specs::ExprGrammar::map_step))]
     pub fn map_step(
         &self,
@@ -79,6 +80,7 @@ impl<
         Ok(Boxed::new(self.alloc, set)?)
     }
 
+    /// All that a set has at each element of the set before it.
     #[tactic(auto, unfolding(sc_forms::specs::Reading::read, sc_tree::specs::ExprGrammar::flat_step))]
     pub fn flat_step(
         &self,
@@ -173,6 +175,7 @@ impl<
         cursor.unless_step(of)
     }
 
+    /// Sets with `+` and `-` between.
     #[tactic(auto, using(crate::proofs::Folds::made_made), unfolding(sc_forms::specs::Reading::read, sc_tree::specs::ExprGrammar::sum))]
     fn sum(&self, cursor: &mut Cursor<'_>) -> Result<Boxed<SetExpr>, Stop>
         requires { Nests self.now.levels
@@ -198,6 +201,7 @@ impl<
         Ok(Boxed::new(self.alloc, set.into_inner().placed(open.at()))?)
     }
 
+    /// A set that no `+` or `-` goes through.
     #[tactic(auto, unfolding(sc_forms::specs::Reading::read, sc_tree::specs::ExprGrammar::set_term))]
     fn set_term(&self, cursor: &mut Cursor<'_>) -> Result<Boxed<SetExpr>, Stop>
         requires { Nests self.now.levels
@@ -245,6 +249,7 @@ impl<
         Ok((one, other))
     }
 
+    /// A set by a test.
     #[tactic(auto, unfolding(sc_forms::specs::Reading::read, sc_tree::specs::ExprGrammar::if_set))]
     fn if_set(&self, cursor: &mut Cursor<'_>) -> Result<Boxed<SetExpr>, Stop>
         requires { Nests self.now.levels
@@ -289,6 +294,7 @@ impl<
         Ok((word, some))
     }
 
+    /// A set by whether there is some.
     #[tactic(auto, unfolding(sc_forms::specs::Reading::read, sc_tree::specs::ExprGrammar::match_set))]
     fn match_set(&self, cursor: &mut Cursor<'_>) -> Result<Boxed<SetExpr>, Stop>
         requires { Nests self.now.levels

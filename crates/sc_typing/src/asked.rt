@@ -47,6 +47,7 @@ pub struct Source {
     pub set: Boxed<TSet>,
 }
 
+/// Whether two base types are the same.
 fn same_base(a: TBase, b: TBase) -> bool
     ensures { result ≡ spec.same_base a b }
 {

@@ -20,6 +20,7 @@ pub fn left_asked(op: CmpOp) -> Option<TTy>
     }
 }
 
+/// Whether two values of a base type are the same: of flags, whether both or neither holds.
 #[tactic(auto, unfolding(crate::specs::Compared::alike))]
 fn alike(op: CmpOp, base: TBase, left: Boxed<TExpr>, right: Boxed<TExpr>) -> TExpr
     ensures { result ≡ spec.alike op base left right }
@@ -30,6 +31,7 @@ fn alike(op: CmpOp, base: TBase, left: Boxed<TExpr>, right: Boxed<TExpr>) -> TEx
     }
 }
 
+/// What is true where the expression is false.
 fn negated(alloc: Global, tree: TExpr) -> Result<TExpr, AllocError>
     ensures { IfOk result (λ negated. negated ≡ spec.negated tree) }
 {
@@ -58,6 +60,7 @@ pub fn compared(
     }
 }
 
+/// The type of what is compared by order at the offset. Only numbers are.
 #[tactic(auto, unfolding(crate::specs::Compared::ordered))]
 fn ordered(base: TBase, at: u32) -> Result<TTy, TypeErr>
     ensures { result ≡ spec.ordered base at }
@@ -68,6 +71,7 @@ fn ordered(base: TBase, at: u32) -> Result<TTy, TypeErr>
     }
 }
 
+/// The type that both sides of a comparison have, asked of a base type at the offset.
 #[tactic(auto, unfolding(crate::specs::Compared::signed))]
 fn signed(op: CmpOp, base: TBase, at: u32) -> Result<TTy, TypeErr>
     ensures { result ≡ spec.signed op base at }

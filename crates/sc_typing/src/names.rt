@@ -21,24 +21,28 @@ pub fn same_name(a: &[u8], b: &[u8]) -> bool
     a == b
 }
 
+/// The first model of that name.
 fn model_among<'s>(models: &'s [ModelInfo], name: &[u8]) -> Option<&'s ModelInfo>
     ensures { option_copied result ≡ find (λ m. bytes_eq m.name name.now) models.now }
 {
     models.iter().find(|m| same_name(m.name.bytes(), name))
 }
 
+/// The model of that number.
 fn model_at<'s>(models: &'s [ModelInfo], number: ModelNo) -> Option<&'s ModelInfo>
     ensures { option_copied result ≡ find (λ m. m.number == number) models.now }
 {
     models.iter().find(|m| m.number == number)
 }
 
+/// The first field of that name.
 fn field_among<'s>(fields: &'s [FieldInfo], name: &[u8]) -> Option<&'s FieldInfo>
     ensures { option_copied result ≡ find (λ f. bytes_eq f.name name.now) fields.now }
 {
     fields.iter().find(|f| same_name(f.name.bytes(), name))
 }
 
+/// The first static of that name.
 fn static_among<'s>(statics: &'s [StaticInfo], name: &[u8]) -> Option<&'s StaticInfo>
     ensures { option_copied result ≡ find (λ n. bytes_eq n.name name.now) statics.now }
 {

@@ -19,6 +19,7 @@ pub fn typed_model(schema: &Schema, model: &Named) -> Result<ModelNo, TypeErr>
     }
 }
 
+/// The base type that the text names.
 #[tactic(auto, unfolding(crate::specs::Policies::typed_base))]
 fn typed_base(schema: &Schema, base: &Base) -> Result<TBase, TypeErr>
     ensures { result ≡ spec.typed_base (plain_of schema.now) base.now }

@@ -24,6 +24,7 @@ pub struct Var {
     pub ty: TTy,
 }
 
+/// How many variables stand before the first of that name.
 fn depth_of(vars: &[Var], name: &[u8]) -> Option<usize>
     ensures { result ≡ position (λ v. bytes_eq v.name name.now) vars.now }
 {
@@ -48,6 +49,7 @@ pub fn var_named(vars: &[Var], x: &Named) -> Result<(u32, TTy), TypeErr>
     Ok((depth, v.ty))
 }
 
+/// The same variables.
 fn copy_vars(alloc: Global, vars: &[Var]) -> Result<Items<Var>, AllocError>
     ensures { IfOk result (λ copies. copies ≡ vars.now) }
 {
@@ -59,6 +61,7 @@ fn copy_vars(alloc: Global, vars: &[Var]) -> Result<Items<Var>, AllocError>
     Ok(Items::from_vec(copies))
 }
 
+/// Whether a variable has that name.
 fn is_var(vars: &[Var], name: &[u8]) -> bool
     ensures { result ≡ list_any (λ v. bytes_eq v.name name.now) vars.now }
 {
