@@ -28,8 +28,8 @@ fn transitive(forms: &mut Forms) -> Result<u32, AllocError> {
     Ok(whole)
 }
 
-/// That there are so many elements, each related to the next, and that the last is not related to the
-/// first; or the first not to the last, which is not so.
+/// That there are so many elements, each related to the next, and that the last is not related to
+/// the first; or the first not to the last, which is not so.
 pub fn chain(alloc: Global, elements: u32, is_open: bool) -> Result<Problem, AllocError> {
     let mut forms = Forms::new(alloc)?;
     let last = elements.saturating_sub(1);

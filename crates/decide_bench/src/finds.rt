@@ -1,6 +1,7 @@
-//! Sets of records that are nested in each other: notes have a group, and memberships have a user, a
-//! group and a level. The set of a note are the users of the memberships that five steps from the note
-//! lead to, from a group to its memberships and from a user to theirs in turn, with some least level.
+//! Sets of records that are nested in each other: notes have a group, and memberships have a user,
+//! a group and a level. The set of a note are the users of the memberships that five steps from the
+//! note lead to, from a group to its memberships and from a user to theirs in turn, with some least
+//! level.
 
 use crate::problem::{Problem, exist};
 use decide_trial::{Forms, signature_of};

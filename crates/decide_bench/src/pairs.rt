@@ -17,8 +17,8 @@ fn each_other(forms: &mut Forms) -> Result<u32, AllocError> {
     forms.forall(0, each)
 }
 
-/// That there are so many elements, of which the first is not true, and each is true that differs from
-/// some; and perhaps that the first and the second differ.
+/// That there are so many elements, of which the first is not true, and each is true that differs
+/// from some; and perhaps that the first and the second differ.
 pub fn pairs(alloc: Global, elements: u32, differ: bool) -> Result<Problem, AllocError> {
     let mut forms = Forms::new(alloc)?;
     let first = forms.bound(0, 0)?;

@@ -15,8 +15,8 @@ pub enum Shape {
     Finds(Finds),
     /// An element to which so many pairs of functions in a row do not lead.
     Rows(u32),
-    /// A transitive relation on so many elements in a row, where the last is not related to the first,
-    /// or else the first not to the last.
+    /// A transitive relation on so many elements in a row, where the last is not related to the
+    /// first, or else the first not to the last.
     Chain(u32, bool),
     /// So many elements that are all the same, and whether two of them differ.
     Pairs(u32, bool),

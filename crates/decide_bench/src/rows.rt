@@ -1,5 +1,5 @@
-//! Functions in rows: three sorts, and so many functions from the first to the second as from there to
-//! the third.
+//! Functions in rows: three sorts, and so many functions from the first to the second as from there
+//! to the third.
 
 use crate::problem::Problem;
 use decide_trial::{Forms, signature_of};

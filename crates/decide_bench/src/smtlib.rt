@@ -1,8 +1,9 @@
 //! A formula as SMT-LIB.
 //!
 //! A sort has a predicate for the elements that there are, which may be none. A function leads from
-//! these to such elements, truth values or numbers of 64 bits; a partial one has a predicate for where
-//! it has a value, and an atom is false where a value is wanting. Formulas with texts are not written.
+//! these to such elements, truth values or numbers of 64 bits; a partial one has a predicate for
+//! where it has a value, and an atom is false where a value is wanting. Formulas with texts are not
+//! written.
 
 ghost use Rattle.std.specs.Prelude.{◌<◌, length};
 

@@ -165,7 +165,8 @@ impl Forms {
         &self.arena
     }
 
-    /// The verdict on a formula. One that is not over the signature counts as memory that is not there.
+    /// The verdict on a formula. One that is not over the signature counts as memory that is not
+    /// there.
     pub fn verdict_on(
         &mut self,
         alloc: Global,

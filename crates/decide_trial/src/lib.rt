@@ -1,5 +1,5 @@
-//! Formulas that tests and benches make and decide: what a call asks of its caller is tested as it is
-//! made, so that what makes formulas owes no proof.
+//! Formulas that tests and benches make and decide: what a call asks of its caller is tested as it
+//! is made, so that what makes formulas owes no proof.
 //!
 //! - `signature`: [`signature_of`], signatures.
 //! - `over`: whether a formula is over a signature.

@@ -2,13 +2,14 @@
 
 ghost use Rattle.std.specs.Prelude.{◌≡◌, ◌≤◌, ◌+◌, ◌*◌, [], length, IfOk};
 ghost use Rattle.sc_formula.specs.Nodes.{IsFormula};
+ghost use Rattle.sc_formula.specs.declared.limits.TheConstants.{MOST_NODES};
 
 use sc_formula::Arena;
 use std::alloc::AllocError;
 
 /// One link more: an atom of few, which is made anew and found.
 fn shared_link(arena: &mut Arena, chain: u32, turn: u32) -> Result<u32, AllocError>
-    requires room { length arena.old + 3 ≤ 4000000 }
+    requires room { length arena.old + 3 ≤ MOST_NODES }
     requires formula { IsFormula arena.old chain }
     ensures formula { IfOk result (IsFormula arena.new) }
     ensures size { IfOk result (λ id. length arena.new ≤ length arena.old + 3) }
@@ -21,7 +22,7 @@ fn shared_link(arena: &mut Arena, chain: u32, turn: u32) -> Result<u32, AllocErr
 /// A chain of so many links, whose atoms are shared.
 pub fn shared_chain(arena: &mut Arena, links: u32) -> Result<u32, AllocError>
     requires empty { arena.old ≡ [] }
-    requires room { 1 + 3 * links ≤ 4000000 }
+    requires room { 1 + 3 * links ≤ MOST_NODES }
     ensures formula { IfOk result (IsFormula arena.new) }
 {
     let mut chain = arena.mk_no()?;
@@ -33,7 +34,7 @@ pub fn shared_chain(arena: &mut Arena, links: u32) -> Result<u32, AllocError>
 
 /// One link more, under a negation: an atom that no other link has.
 fn negated_link(arena: &mut Arena, chain: u32, turn: u32) -> Result<u32, AllocError>
-    requires room { length arena.old + 5 ≤ 4000000 }
+    requires room { length arena.old + 5 ≤ MOST_NODES }
     requires formula { IsFormula arena.old chain }
     ensures formula { IfOk result (IsFormula arena.new) }
     ensures size { IfOk result (λ id. length arena.new ≤ length arena.old + 5) }
@@ -48,9 +49,9 @@ fn negated_link(arena: &mut Arena, chain: u32, turn: u32) -> Result<u32, AllocEr
 /// A chain of so many links, each under a negation.
 pub fn negated_chain(arena: &mut Arena, links: u32) -> Result<u32, AllocError>
     requires empty { arena.old ≡ [] }
-    requires room { 3 * (1 + 5 * links) ≤ 4000000 }
+    requires room { 3 * (1 + 5 * links) ≤ MOST_NODES }
     ensures formula { IfOk result (IsFormula arena.new) }
-    ensures size { IfOk result (λ id. 3 * length arena.new ≤ 4000000) }
+    ensures size { IfOk result (λ id. 3 * length arena.new ≤ MOST_NODES) }
 {
     let mut chain = arena.mk_yes()?;
     for turn in 0..links {

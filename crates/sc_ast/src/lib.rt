@@ -2,13 +2,15 @@
 //!
 //! | module | holds |
 //! |---|---|
+//! | `limits` | the limits of specifications and scripts |
 //! | `names` | `Name`, of statics, models, fields and variables |
 //! | `texts` | `Txt`, a text literal's value or a word of a command line |
 //!
 //! Contracts see a name or a text as its bytes.
-//! `specs/Limits.antt` has the limits of the language.
+//! Definitions have the limits by the names in `specs/Limits.antt`.
 #![tactic(auto)]
 
+pub mod limits;
 mod names;
 #[cfg(test)]
 mod tests;

@@ -118,7 +118,8 @@ fn count_filters(filters: &[TFilter], before: usize) -> Result<usize, AllocError
 /// So many, and those in the value of a filter, and its field.
 #[cycle(counts)]
 fn count_filter(filter: &TFilter, before: usize) -> Result<usize, AllocError>
-    ensures { IfOk result (λ count. (m : ℕ) (rest : Filters) → count + length (filter_uses_of m rest)
+    ensures { IfOk result (λ count. (m : ℕ) (rest : Filters) →
+        count + length (filter_uses_of m rest)
         ≡ before + length (filter_uses_of m (filter_of filter.now rest))) }
 {
     match filter {

@@ -410,7 +410,8 @@ fn take_apart(
     ensures { let c = start.now in let s = schema_in c in Makes w.old result w.new
         (asked_of c above steps.now goal.now (of_option s choice
         (cases_of s (written_in c scene.now) (scene_data c scene.now) (expr_of a.now))
-        (λ x. cases_of s (written_in c scene.now) (scene_data c scene.now ++ x ∷ []) (expr_of some.now))
+        (λ x. cases_of s (written_in c scene.now) (scene_data c scene.now
+        ++ x ∷ []) (expr_of some.now))
         (end_data c end.now))) }
 {
     let fuel = deeper(fuel)?;

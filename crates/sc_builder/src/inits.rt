@@ -17,9 +17,10 @@ ghost use Rattle.sc_builder.specs.Values.{schema_in, written_in, written_upto, s
 
 use crate::counts::count_init;
 use crate::formulas::{ask, write};
-use crate::policies::{MOST_FUEL, MOST_SIZE};
+use crate::policies::MOST_FUEL;
 use crate::start::Start;
 use crate::values::{End, Goal, Part, Scene, Source, Steps, Use, Who};
+use sc_duty::limits::MOST_SIZE;
 use sc_formula::Arena;
 use sc_schema::{TBase, TExpr, TInit, TTy};
 use sc_writer::{MakeErr, Mode, Term, Writer};

@@ -85,7 +85,8 @@ fn expr_place(e: &TExpr, number: usize) -> Result<Place<'_>, AllocError>
 
 /// The place of a use in the access of a field.
 fn get_place(of: &TExpr, number: usize) -> Result<Place<'_>, AllocError>
-    ensures { IfOk result (λ place. (m f : ℕ) → IsIn place (plain.get (expr_of of.now) m f) number) }
+    ensures { IfOk result (λ place. (m f : ℕ) →
+        IsIn place (plain.get (expr_of of.now) m f) number) }
 {
     let count = count_expr(of, 0)?;
     let inner = Place::Within(Use::InExpr(of, number));
@@ -94,7 +95,8 @@ fn get_place(of: &TExpr, number: usize) -> Result<Place<'_>, AllocError>
 
 /// The place of a use in one of two expressions.
 fn two_exprs<'a>(a: &'a TExpr, b: &'a TExpr, number: usize) -> Result<Place<'a>, AllocError>
-    ensures { IfOk result (λ place. IsIn place (plain.both (expr_of a.now) (expr_of b.now)) number) }
+    ensures { IfOk result (λ place. IsIn place (plain.both (expr_of a.now)
+        (expr_of b.now)) number) }
 {
     let count = count_expr(a, 0)?;
     let rest = number.saturating_sub(count);
@@ -193,7 +195,8 @@ fn set_place(set: &TSet, number: usize) -> Result<Place<'_>, AllocError>
 
 /// The place of a use in one of two sets.
 fn two_sets<'a>(a: &'a TSet, b: &'a TSet, number: usize) -> Result<Place<'a>, AllocError>
-    ensures { IfOk result (λ place. IsInSet place (plain.union (set_of a.now) (set_of b.now)) number) }
+    ensures { IfOk result (λ place. IsInSet place (plain.union (set_of a.now)
+        (set_of b.now)) number) }
 {
     let count = count_set(a, 0)?;
     let rest = number.saturating_sub(count);
@@ -347,7 +350,8 @@ fn filter_place(filter: &TFilter, number: usize) -> Result<Sought<'_>, AllocErro
     Ok(past_field(sought))
 }
 
-/// The place of a use that has the number that is left, at the field of a filter, or else behind it.
+/// The place of a use that has the number that is left, at the field of a filter, or else behind
+/// it.
 fn past_field(sought: Sought<'_>) -> Sought<'_>
     ensures { (s : Schema) (written : Written) (y : tree.Term) (env : Scene) (above : ℕ)
         (more : ℕ → tree.Formula) → sought_data s written y env result more above

@@ -13,6 +13,7 @@ ghost use Rattle.sc_builder.specs.Values.{schema_in, written_upto, who_data};
 use crate::formulas::write;
 use crate::start::Start;
 use crate::values::{End, Part, Scene, Who};
+use sc_duty::limits::MOST_SIZE;
 use sc_formula::Arena;
 use sc_schema::TPolicy;
 use sc_writer::{MakeErr, Mode, Term, Writer};
@@ -21,9 +22,6 @@ use std::alloc::{AllocError, Global};
 /// How deep a walk may go. Each form of an expression that is not done yet takes a few steps, and a
 /// step takes some 435 bytes of the stack: two thirds of the 8 MB that a process has by default.
 pub const MOST_FUEL: u32 = 12_000;
-
-/// The size at which sizes stay.
-pub(crate) const MOST_SIZE: u64 = 1_000_000;
 
 /// Writes whether a policy allows who is asked about its right on the record that a term is, where
 /// so many added fields are written out; where the sign is not, that it does not.

@@ -49,8 +49,8 @@ impl Start<'_> {
         self.numbering.relation_of(m, f)
     }
 
-    /// The function that a field is, where formulas are written. Where they are only counted it does
-    /// not matter, and is not looked up.
+    /// The function that a field is, where formulas are written. Where they are only counted it
+    /// does not matter, and is not looked up.
     pub(crate) fn function_for(&self, mode: Mode, m: ModelNo, f: FieldNo) -> u32
         ensures { mode ≡ Build → result ≡ function_of (schema_of self.now.schema.now) m f }
     {

@@ -6,6 +6,7 @@ ghost use Rattle.sc_formula.specs.Nodes.{StandsFor};
 ghost use Rattle.sc_schema.specs.Script.{IsScript};
 ghost use Rattle.sc_schema.specs.SchemaViews.{schema_of, script_of};
 ghost use Rattle.sc_numbering.specs.Numbers.{numbers_of};
+ghost use Rattle.sc_formula.specs.declared.limits.TheConstants.{MOST_NODES};
 
 use sc_duty::Duty;
 use sc_formula::Arena;
@@ -16,7 +17,8 @@ use std::alloc::{AllocError, Global};
 /// What makes the formulas of obligations.
 pub trait Formulas {
     /// Makes the formula of an obligation of the script, whose start schema has these numbers, in
-    /// an arena that is empty, and gives its number. There is room in the arena for the normal form.
+    /// an arena that is empty, and gives its number. There is room in the arena for the normal
+    /// form.
     fn formula(
         &self,
         alloc: Global,
@@ -29,6 +31,7 @@ pub trait Formulas {
         requires script { IsScript (script_of t.now) }
         requires numbered { numbering.now ≡ numbers_of (schema_of t.now.start) }
         requires listed { Contains (obligations_of (script_of t.now)) duty }
-        ensures formula { IfOk result (λ id. StandsFor arena.new id (formula_of (script_of t.now) duty)) }
-        ensures room { IfOk result (λ id. 3 * length arena.new ≤ 4000000) };
+        ensures formula { IfOk result (λ id. StandsFor arena.new id (formula_of
+            (script_of t.now) duty)) }
+        ensures room { IfOk result (λ id. 3 * length arena.new ≤ MOST_NODES) };
 }

@@ -18,6 +18,7 @@ ghost use Rattle.sc_verdict.specs.Outcomes as spec;
 ghost use Rattle.sc_checker.specs.Views.{outcome_data};
 ghost use Rattle.sc_data_text.specs.Told.{IsInOrder};
 ghost use Rattle.sc_witness_text.specs.Views.{witness_data};
+ghost use Rattle.sc_formula.specs.declared.limits.TheConstants.{MOST_NODES};
 
 use crate::formulas::Formulas;
 use crate::known::Known;
@@ -43,7 +44,7 @@ fn verdict_in(
 ) -> Result<Verdict, AllocError>
     requires formula { IsFormula arena id }
     requires over { IsOver signature.now [] (formula_at arena id) }
-    requires room { 3 * length arena ≤ 4000000 }
+    requires room { 3 * length arena ≤ MOST_NODES }
     requires signature { known.old ≡ signature.now }
     ensures verdict { IfOk result (IsVerdict signature.now (formula_at arena id)) }
     ensures kept { OnOk result (known.new ≡ known.old) }

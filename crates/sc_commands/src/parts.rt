@@ -12,15 +12,13 @@ ghost use Rattle.sc_commands.specs.Resolved as rule;
 use crate::thing::Thing;
 use crate::users::first_user;
 use sc_ast::Txt;
+use sc_ast::limits::MOST_FIELDS;
 use sc_schema::{FieldNo, ModelInfo, ModelNo, Schema, StaticNo, TInit, TPolicy, TTy};
 use sc_specs::{one_more, policy_over};
 use sc_tree::{Init, Named, Policy, Reason};
 use sc_typing::{TypeErr, field_named, model_named, static_named, typed_init};
 use std::alloc::Global;
 use std::rc::Rc;
-
-/// How many fields a model may have.
-const MOST_FIELDS: usize = 64;
 
 /// A policy that a command may give.
 pub type Given = Option<Rc<TPolicy>>;

@@ -4,6 +4,7 @@ use Rattle.std.specs.List.{AllByRecursion}
 use Rattle.std.specs.List.Sorted.{IsStrictlyIncreasing}
 use Rattle.std.specs.Int.{w64}
 use Rattle.sc_ast.specs.Words.{IsText}
+use Rattle.sc_data.specs.declared.limits.TheConstants.{LAST_ID}
 use Rattle.sc_schema.specs.declared.types.TBase.{TBase}
 use Rattle.sc_schema.specs.declared.types.TBase.TheVariants as base
 use Rattle.sc_schema.specs.declared.types.TTy.{TTy}
@@ -20,7 +21,7 @@ pub data Value : Type 0 where
   Just : Value → Value
 
 abbrev pub last_id : ℕ
-last_id = 9223372036854775806
+last_id = LAST_ID
 
 abbrev pub IsId : ℕ → Type 0
 IsId id = (1 ≤ id) × (id ≤ last_id)

@@ -10,11 +10,9 @@ ghost use Rattle.sc_data.specs.Values.{IsBaseValueOf, IsId, IsValueOf};
 ghost use Rattle.sc_records.specs.Views.{value_data};
 ghost use Rattle.sc_schema.specs.declared.types.TBase.TheVariants as base;
 
+use sc_data::limits::LAST_ID;
 use sc_records::{Database, Value};
 use sc_schema::{ModelNo, TBase, TTy};
-
-/// The last id of a record.
-const LAST_ID: u64 = 9_223_372_036_854_775_806;
 
 /// Whether a number can be an id: from 1 to the last.
 fn is_id(id: u64) -> bool

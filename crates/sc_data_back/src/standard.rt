@@ -12,12 +12,13 @@ ghost use Rattle.sc_schema.specs.Proper.{model_numbers};
 ghost use Rattle.sc_schema.specs.SchemaViews.{field_info_of, model_info_of, schema_of};
 
 use crate::shapes::{is_intact, is_value};
+use sc_data::limits::LAST_ID;
 use sc_records::{Database, Record, Slot, Table};
 use sc_schema::{FieldInfo, ModelInfo, Schema};
 use std::alloc::AllocError;
 
 /// The last id of a record, and one more.
-const LAST_NEXT: u64 = 9_223_372_036_854_775_807;
+const LAST_NEXT: u64 = LAST_ID + 1;
 
 /// The id of the record at the place.
 fn id_at(records: &[Record], place: usize) -> u64

@@ -12,12 +12,13 @@ use crate::ids::{distinct_ids, ids_rise};
 use crate::literals::{id_in, is_base, lit_at};
 use crate::names::{are_in_order, field_named, has_field, has_table, model_named};
 use crate::numbers::Numbers;
+use sc_data::limits::LAST_ID;
 use sc_data_tree::{FieldLit, Lit, RecordLit, TableLit};
 use sc_schema::{FieldInfo, ModelInfo, TBase, TTy};
 use std::alloc::{AllocError, Global};
 
 /// The last id of a record, and one more.
-const LAST_NEXT: u64 = 9_223_372_036_854_775_807;
+const LAST_NEXT: u64 = LAST_ID + 1;
 
 /// That what is written is not of the base type.
 fn base_fault(l: &Lit, b: TBase) -> Option<Fault>

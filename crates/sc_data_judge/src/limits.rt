@@ -8,6 +8,7 @@ ghost use Rattle.sc_data_judge.specs.Ranged.{HasRange, HaveRanges, IsRanged, Rec
 ghost use Rattle.sc_records.specs.Room.{record_count, record_weight, total_weight, weight_of};
 ghost use Rattle.sc_records.specs.Views.{record_data, slot_data, table_data, value_data};
 
+use sc_records::limits::{MOST_RECORDS, MOST_WEIGHT};
 use sc_records::{Limit, Record, Slot, Table, Value};
 
 /// Whether a database that is read has to keep within the limits.
@@ -18,12 +19,6 @@ pub enum Limits {
     /// One that was kept, which a change of the schema may have left above them.
     Waived,
 }
-
-/// How many records a database holds at most.
-const MOST_RECORDS: usize = 20_000;
-
-/// How much a database weighs at most.
-const MOST_WEIGHT: u64 = 33_554_432;
 
 /// What is left of a number without the records of tables, or None where they are more.
 fn without_rows(left: usize, tables: &[Table]) -> Option<usize>

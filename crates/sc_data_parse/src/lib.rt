@@ -1,8 +1,8 @@
 //! The trees of databases' texts.
 //!
 //! [`parse_data`] gives the tables that a text spells, or a `SyntaxErr`: why it spells none, and
-//! where. Each production is a function that equals the reader of its form (`specs/Reads.antt`); the
-//! laws of sc_data_causes say what that reader answers.
+//! where. Each production is a function that equals the reader of its form (`specs/Reads.antt`);
+//! the laws of sc_data_causes say what that reader answers.
 //!
 //! | module | holds |
 //! |---|---|

@@ -15,15 +15,13 @@ ghost use Rattle.sc_texts.specs.Refused.{offset};
 ghost use Rattle.sc_data_parse.specs.Refused.{IsRefusedAs};
 
 use crate::values::Values;
+use sc_ast::limits::MOST_LEVELS;
 use sc_data_tree::TableLit;
 use sc_lexer::{Token, lex};
 use sc_syntax::{Cursor, Stop};
 use sc_texts::{SyntaxErr, What};
 use sqlite_items::Items;
 use std::alloc::Global;
-
-/// How deep values nest at most.
-const MOST_LEVELS: u32 = 64;
 
 /// The offset of the next token.
 fn next_offset(cursor: &Cursor<'_>) -> u32

@@ -1,4 +1,5 @@
-//! What holds of the printed texts of databases, by the grammar and by what reads them: laws, no code.
+//! What holds of the printed texts of databases, by the grammar and by what reads them: laws, no
+//! code.
 //!
 //! | module | holds |
 //! |---|---|

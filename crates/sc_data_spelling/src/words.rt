@@ -15,8 +15,8 @@ ghost use Rattle.sc_tree.specs.Texts.{IsScriptText, IsSpecText};
 ghost use Rattle.sc_written.specs.Specs.{written_spec};
 
 /// The schema of a specification that a text spells has names that are words, and so has the schema
-/// after a command of a script that a text spells. A schema that is written as the same tree, as one
-/// that is numbered anew, has the same names.
+/// after a command of a script that a text spells. A schema that is written as the same tree, as
+/// one that is numbered anew, has the same names.
 pub fn schemas_have_words()
     ensures specifications { (sizes : Sizes) (text : List ℕ) (x : Spec) (s : Schema) →
         IsSpecText text x → IsProper s → typed_spec sizes x ≡ Ok s → HasWords s }

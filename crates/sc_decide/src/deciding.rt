@@ -8,6 +8,7 @@ ghost use Rattle.sc_formula.specs.Over.{IsOver};
 ghost use Rattle.sc_formula.specs.Trees.{Formula};
 ghost use Rattle.sc_formula.specs.Truth.{IsEquallyTrue};
 ghost use Rattle.sc_decide.specs.Verdicts.{IsVerdict, IsVerdictOn};
+ghost use Rattle.sc_formula.specs.declared.limits.TheConstants.{MOST_NODES};
 
 use crate::shallow_terms::decide_shallow;
 use crate::stratified::decide_stratified;
@@ -38,8 +39,8 @@ fn decide_form(
 /// Decides a closed formula over all finite structures.
 ///
 /// On a stratified formula within the limits the verdict is Safe or Found. On one that is not
-/// stratified a structure is sought over its shallow terms: where there is none the verdict is Safe,
-/// and else Found or Unknown, as the structure satisfies the formula or does not.
+/// stratified a structure is sought over its shallow terms: where there is none the verdict is
+/// Safe, and else Found or Unknown, as the structure satisfies the formula or does not.
 pub fn decide(
     alloc: Global,
     arena: &mut Arena,
@@ -48,7 +49,7 @@ pub fn decide(
 ) -> Result<Verdict, AllocError>
     requires formula { IsFormula arena.old id }
     requires over { IsOver signature.now [] (formula_of arena.old id) }
-    requires room { 3 * length arena.old ≤ 4000000 }
+    requires room { 3 * length arena.old ≤ MOST_NODES }
     ensures verdict { IfOk result (IsVerdict signature.now (formula_of arena.old id)) }
     ensures kept { Extends arena.old arena.new }
 {

@@ -43,8 +43,8 @@ fn firsts_of(
     Ok(firsts)
 }
 
-/// The place of the first pair with a pair's key, if only one of the two is related. A key without a
-/// place counts as memory that is not there.
+/// The place of the first pair with a pair's key, if only one of the two is related. A key without
+/// a place counts as memory that is not there.
 fn rival_of(
     source: Source<'_>,
     firsts: &Firsts<PairKey>,

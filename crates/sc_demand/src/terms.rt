@@ -16,8 +16,8 @@ use sc_formula::SVal;
 use sc_models::Found;
 use std::alloc::{AllocError, Global};
 
-/// The places of two terms or pairs that are not the same, though what they have is a function of the
-/// same: one, and the first with its key.
+/// The places of two terms or pairs that are not the same, though what they have is a function of
+/// the same: one, and the first with its key.
 #[derive(Clone, Copy, Debug)]
 pub(crate) struct Rivals {
     pub(crate) one: usize,

@@ -1,6 +1,7 @@
 -- The sizes of formulas, policies and initialisers.
 use Rattle.std.specs.Prelude.{ℕ, ◌+◌, true, false, [], ◌∷◌, length, map, max, min, sum}
 use Rattle.std.specs.List.{range_with_len}
+use Rattle.sc_duty.specs.declared.limits.TheConstants.{MOST_SIZE}
 use Rattle.sc_schema.specs.declared.types.TBase.TheVariants as base
 use Rattle.sc_schema.specs.declared.types.TTy.{TTy}
 use Rattle.sc_schema.specs.declared.types.TTy.TheVariants.{Plain, Set, Opt}
@@ -82,7 +83,7 @@ module _ (s : Schema) where
         + sum (map (λ number. size (init_reach s written other init row number 2)) (range_with_len 0 (length (init_uses_of init))))
 
 abbrev pub most_size : ℕ
-most_size = 1000000
+most_size = MOST_SIZE
 
 -- Sizes are taken with added fields written out and as fields like others; the larger one counts, up to a number at which it stays.
 abbrev pub policy_size : Schema → Policy → ℕ

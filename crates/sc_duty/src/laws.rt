@@ -41,8 +41,8 @@ pub fn formulas_are_over()
     ensures { FormulasAreOver }
 {}
 
-/// The schema of the start databases of a script has a signature, if it has fewer than 2^32 functions
-/// and fewer than 2^32 set relations.
+/// The schema of the start databases of a script has a signature, if it has fewer than 2^32
+/// functions and fewer than 2^32 set relations.
 pub fn signatures_fit()
     ensures { SignaturesFit }
 {}
@@ -53,8 +53,8 @@ pub fn structures_are_over()
     ensures { StructuresAreOver }
 {}
 
-/// If no formula of an obligation of a script is true on a structure over that signature, the script
-/// is secure at each of its commands.
+/// If no formula of an obligation of a script is true on a structure over that signature, the
+/// script is secure at each of its commands.
 pub fn unsatisfied_secure()
     ensures { UnsatisfiedSecure }
 {}

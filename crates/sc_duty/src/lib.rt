@@ -4,6 +4,7 @@
 //! |---|---|
 //! | `duty` | `Duty`, an obligation |
 //! | `laws` | laws over the definitions |
+//! | `limits` | how far sizes are counted |
 //!
 //! | definitions | say |
 //! |---|---|
@@ -24,6 +25,7 @@
 
 mod duty;
 mod laws;
+pub mod limits;
 
 pub use duty::Duty;
 pub use laws::{

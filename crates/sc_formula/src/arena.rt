@@ -4,6 +4,7 @@ ghost use Rattle.std.specs.Prelude.{◌≡◌, ℕ, ◌<◌, ◌≤◌, [], leng
 ghost use Rattle.sc_formula.specs.Nodes.{trees_of, tree_of, tree_from, ArePlaced, IsPlaced};
 ghost use Rattle.sc_formula.specs.Nodes.{IsBelow};
 ghost use Rattle.sc_formula.specs.Added.{IsAdded};
+ghost use Rattle.sc_formula.specs.declared.limits.TheConstants.{MOST_NODES};
 
 use crate::node::Node;
 use indexmap::IndexSet;
@@ -20,12 +21,13 @@ impl Model for Arena {
     ghost use Rattle.std.specs.Prelude.{◌≤◌, List, length};
     ghost use Rattle.sc_formula.specs.declared.node.Node.{Node};
     ghost use Rattle.sc_formula.specs.Nodes.{ArePlaced};
+    ghost use Rattle.sc_formula.specs.declared.limits.TheConstants.{MOST_NODES};
 
     ghost Value = { List Node };
 
     ghost view = { λ a. a.nodes.keys };
 
-    ghost invariant = { λ a. ArePlaced a.nodes.keys × (length a.nodes.keys ≤ 4000000) };
+    ghost invariant = { λ a. ArePlaced a.nodes.keys × (length a.nodes.keys ≤ MOST_NODES) };
 }
 
 impl Arena {
@@ -41,7 +43,7 @@ impl Arena {
     /// How many nodes there are.
     pub fn len(&self) -> usize
         ensures len { result ≡ length self.now }
-        ensures most { result ≤ 4000000 }
+        ensures most { result ≤ MOST_NODES }
         ensures placed { ArePlaced self.now }
     {
         self.nodes.len()
@@ -65,7 +67,7 @@ impl Arena {
 
     /// The number of the node, which is added if there is none equal to it.
     pub(crate) fn add(&mut self, node: Node) -> Result<u32, AllocError>
-        requires room { length self.old < 4000000 }
+        requires room { length self.old < MOST_NODES }
         requires placed { IsPlaced self.old node }
         ensures made { IfOk result (IsAdded self.old node self.new) }
         ensures err { OnErr result (self.new ≡ self.old) }

@@ -1,6 +1,7 @@
 //! Formulas over finite structures: an arena of shared nodes, truth, and the negation normal form.
 //!
 //! - `structure`: `Signature` and `Structure`.
+//! - `limits`: how many nodes there are at most.
 //! - `node`: `Node`, a term or a formula whose parts are numbers of earlier nodes.
 //! - `arena`: `Arena`, which numbers nodes and shares equal ones.
 //! - `makers`: the calls of `Arena` that add one node each.
@@ -12,6 +13,7 @@
 mod arena;
 mod atom;
 mod evaluation;
+pub mod limits;
 mod makers;
 mod marks;
 mod node;

@@ -11,6 +11,7 @@ ghost use Rattle.sc_formula.specs.Forms.{HasParts, AreFormsOf, AreForms, is_want
 ghost use Rattle.sc_formula.specs.Forms.{IsTaken, CanTake};
 ghost use Rattle.sc_formula.specs.Nodes.{StandsFor};
 ghost use Rattle.sc_formula.specs.declared.node.Node.{Node as AnyNode};
+ghost use Rattle.sc_formula.specs.declared.limits.TheConstants.{MOST_NODES};
 
 use crate::arena::Arena;
 use crate::marks::{Wanted, marks_for};
@@ -29,7 +30,7 @@ pub(crate) struct Forms {
 /// it. Each node is visited once for the formula and once for its negation, without recursion.
 pub fn nnf(arena: &mut Arena, id: u32) -> Result<u32, AllocError>
     requires formula { IsFormula arena.old id }
-    requires room { 3 * length arena.old ≤ 4000000 }
+    requires room { 3 * length arena.old ≤ MOST_NODES }
     ensures form { IfOk result
         (λ form. StandsFor arena.new form (normal_form (formula_of arena.old id))) }
     ensures normal { IfOk result (λ form. IsNormal (formula_of arena.new form)) }
@@ -48,7 +49,7 @@ pub fn nnf(arena: &mut Arena, id: u32) -> Result<u32, AllocError>
 fn forms_for(alloc: Global, arena: &mut Arena, marks: &[Wanted]) -> Result<Vec<Forms>, AllocError>
     requires passed_on { ArePassedOn arena.old marks.now 0 }
     requires within { length marks.now ≤ length arena.old }
-    requires room { 3 * length arena.old ≤ 4000000 }
+    requires room { 3 * length arena.old ≤ MOST_NODES }
     ensures kept { Extends arena.old arena.new }
     ensures size { length arena.new ≤ 3 * length arena.old }
     ensures length { IfOk result (λ forms. length forms.items ≡ length marks.now) }
@@ -69,7 +70,7 @@ fn positive_form(arena: &mut Arena, id: u32, forms: &[Forms]) -> Result<u32, All
     requires there { slice_get arena.old id ≡ Some node }
     requires below { IsBelow (length forms.now) node }
     requires placed { CanTake (step_of forms.now id true node) arena.old }
-    requires room { length arena.old < 4000000 }
+    requires room { length arena.old < MOST_NODES }
     ensures taken { IfOk result (IsTaken (step_of forms.now id true node) arena.old arena.new) }
     ensures err { OnErr result (arena.new ≡ arena.old) }
 {
@@ -111,7 +112,7 @@ fn negative_form(arena: &mut Arena, id: u32, forms: &[Forms]) -> Result<u32, All
     requires there { slice_get arena.old id ≡ Some node }
     requires below { IsBelow (length forms.now) node }
     requires placed { CanTake (step_of forms.now id false node) arena.old }
-    requires room { length arena.old < 4000000 }
+    requires room { length arena.old < MOST_NODES }
     ensures taken { IfOk result (IsTaken (step_of forms.now id false node) arena.old arena.new) }
     ensures err { OnErr result (arena.new ≡ arena.old) }
 {
@@ -149,7 +150,7 @@ fn positive_if(arena: &mut Arena, id: u32, wanted: bool, forms: &[Forms]) -> Res
     requires all { ArePlaced arena.old }
     requires below { IsBelow (length forms.now) node }
     requires parts { wanted ≡ true → HasParts arena.old forms.now true node }
-    requires room { length arena.old < 4000000 }
+    requires room { length arena.old < MOST_NODES }
     ensures kept { Extends arena.old arena.new }
     ensures one_more { length arena.new ≤ length arena.old + 1 }
     ensures form { IfOk result (λ form. wanted ≡ true → IsFormula arena.old id →
@@ -169,7 +170,7 @@ fn negative_if(arena: &mut Arena, id: u32, wanted: bool, forms: &[Forms]) -> Res
     requires all { ArePlaced arena.old }
     requires below { IsBelow (length forms.now) node }
     requires parts { wanted ≡ true → HasParts arena.old forms.now false node }
-    requires room { length arena.old < 4000000 }
+    requires room { length arena.old < MOST_NODES }
     ensures kept { Extends arena.old arena.new }
     ensures one_more { length arena.new ≤ length arena.old + 1 }
     ensures form { IfOk result (λ form. wanted ≡ true → IsFormula arena.old id →
@@ -191,7 +192,7 @@ fn convert(arena: &mut Arena, id: u32, wanted: Wanted, forms: &[Forms]) -> Resul
     requires below { IsBelow (length forms.now) node }
     requires parts { (sign : Bool) → is_wanted sign wanted ≡ true →
         HasParts arena.old forms.now sign node }
-    requires room { length arena.old + 1 < 4000000 }
+    requires room { length arena.old + 1 < MOST_NODES }
     ensures kept { Extends arena.old arena.new }
     ensures two_more { length arena.new ≤ length arena.old + 2 }
     ensures forms { IfOk result (λ forms. IsFormula arena.old id →

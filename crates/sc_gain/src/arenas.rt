@@ -2,8 +2,10 @@
 
 ghost use Rattle.std.specs.Prelude.{◌≡◌, ◌≤◌, ◌*◌, IfOk, Ok, length};
 ghost use Rattle.sc_writer.specs.declared.writer.Mode.TheVariants.{Build};
+ghost use Rattle.sc_formula.specs.declared.limits.TheConstants.{MOST_NODES};
 
 use sc_formula::Arena;
+use sc_formula::limits::MOST_NODES;
 use sc_writer::{MakeErr, Mode, Writer};
 use std::alloc::{AllocError, Global};
 use std::mem;
@@ -11,9 +13,6 @@ use std::mem;
 /// How large a formula may be: many times what the limits on the sizes of policies and initialisers
 /// let three of them be.
 const MOST_SIZE: u64 = 500_000;
-
-/// How many nodes an arena holds.
-const MOST_NODES: usize = 4_000_000;
 
 /// What writes into the arena, which is empty until it is put back.
 pub(crate) fn writer_over(alloc: Global, arena: &mut Arena) -> Result<Writer, AllocError>
@@ -37,7 +36,7 @@ pub(crate) fn put_back(
 ) -> Result<u32, AllocError>
     ensures made { IfOk result (λ id. made ≡ Ok id) }
     ensures arena { IfOk result (λ id. arena.new ≡ w.arena) }
-    ensures room { IfOk result (λ id. 3 * length arena.new ≤ 4000000) }
+    ensures room { IfOk result (λ id. 3 * length arena.new ≤ MOST_NODES) }
 {
     *arena = w.arena;
     let Ok(id) = made else {

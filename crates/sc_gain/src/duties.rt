@@ -5,6 +5,7 @@ ghost use Rattle.sc_duty.specs.Duties.{formula_of, obligations_of};
 ghost use Rattle.sc_formula.specs.Nodes.{StandsFor};
 ghost use Rattle.sc_schema.specs.Script.{IsScript};
 ghost use Rattle.sc_schema.specs.SchemaViews.{script_of};
+ghost use Rattle.sc_formula.specs.declared.limits.TheConstants.{MOST_NODES};
 
 use crate::flows::flow_formula;
 use crate::gains::gain_formula;
@@ -24,8 +25,9 @@ pub fn duty_formula(
     requires empty { arena.old ≡ [] }
     requires script { IsScript (script_of of.now.script.now) }
     requires listed { Contains (obligations_of (script_of of.now.script.now)) duty }
-    ensures formula { IfOk result (λ id. StandsFor arena.new id (formula_of (script_of of.now.script.now) duty)) }
-    ensures room { IfOk result (λ id. 3 * length arena.new ≤ 4000000) }
+    ensures formula { IfOk result (λ id. StandsFor arena.new id (formula_of
+        (script_of of.now.script.now) duty)) }
+    ensures room { IfOk result (λ id. 3 * length arena.new ≤ MOST_NODES) }
 {
     match duty.spot {
         Some(spot) => flow_formula(alloc, arena, of, duty, spot),

@@ -10,6 +10,7 @@ ghost use Rattle.sc_writer.specs.Terms.{term_data};
 ghost use Rattle.sc_builder.specs.Values.{who_data};
 ghost use Rattle.sc_gain.specs.Parts as part;
 ghost use Rattle.sc_gain.specs.Written.{IsWritten};
+ghost use Rattle.sc_formula.specs.declared.limits.TheConstants.{MOST_NODES};
 
 use crate::arenas::{put_back, writer_over};
 use crate::gains::model_of_target;
@@ -160,9 +161,9 @@ fn flow(
 }
 
 /// Makes the formula of an obligation of the script that is against a leak, in the arena, and gives
-/// its number: some principal of the kind may read the added field on some record, and the use reads
-/// its field of a record on which that principal may not read it. There is room in the arena for
-/// the normal form.
+/// its number: some principal of the kind may read the added field on some record, and the use
+/// reads its field of a record on which that principal may not read it. There is room in the arena
+/// for the normal form.
 pub fn flow_formula(
     alloc: Global,
     arena: &mut Arena,
@@ -173,7 +174,7 @@ pub fn flow_formula(
     requires { duty.spot ≡ Some spot }
     ensures formula { IfOk result (λ id. StandsFor arena.new id
         (flow_formula_of (script_of of.now.script.now) duty spot)) }
-    ensures room { IfOk result (λ id. 3 * length arena.new ≤ 4000000) }
+    ensures room { IfOk result (λ id. 3 * length arena.new ≤ MOST_NODES) }
 {
     let mut w = writer_over(alloc, arena)?;
     let made = flow(alloc, &mut w, of, duty, spot);

@@ -9,6 +9,7 @@ ghost use Rattle.sc_writer.specs.Terms.{term_data};
 ghost use Rattle.sc_builder.specs.Values.{who_data};
 ghost use Rattle.sc_gain.specs.Parts as part;
 ghost use Rattle.sc_gain.specs.Written.{IsWritten};
+ghost use Rattle.sc_formula.specs.declared.limits.TheConstants.{MOST_NODES};
 
 use crate::arenas::{put_back, writer_over};
 use crate::numbered::Numbered;
@@ -92,7 +93,7 @@ pub fn gain_formula(
     requires { duty.spot ≡ None }
     ensures formula { IfOk result (λ id. StandsFor arena.new id
         (gain_formula_of (script_of of.now.script.now) duty)) }
-    ensures room { IfOk result (λ id. 3 * length arena.new ≤ 4000000) }
+    ensures room { IfOk result (λ id. 3 * length arena.new ≤ MOST_NODES) }
 {
     let mut w = writer_over(alloc, arena)?;
     let made = gain(&mut w, of, duty);

@@ -10,8 +10,8 @@ ghost use Rattle.sc_gates.specs.Clauses.{HaveInputsBelow, Meets};
 ///
 /// In an assignment that meets the clauses, a gate whose variable is true is true. An assignment of
 /// the variables below the base can be given values for those of the gates, so that it meets the
-/// clauses and the variable of each gate is true exactly where the gate is. So the clauses, with the
-/// variable of a gate, can be met exactly where some assignment makes the gate true.
+/// clauses and the variable of each gate is true exactly where the gate is. So the clauses, with
+/// the variable of a gate, can be met exactly where some assignment makes the gate true.
 pub fn gates_as_clauses()
     ensures sound { (gates : List Gate) (base k : ℕ) (v : ℕ → Bool) →
         ArePlaced gates → k < length gates → Meets base gates v → v (base + k) ≡ true →

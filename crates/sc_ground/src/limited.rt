@@ -49,8 +49,9 @@ fn limited_terms(
     Ok(Limited::Listed(terms))
 }
 
-/// Lists all ground terms of a stratified formula, each once: the terms over which it is satisfiable
-/// if it is satisfiable at all (Ge and de Moura 2009; Abadi, Rabinovich and Sagiv 2010).
+/// Lists all ground terms of a stratified formula, each once: the terms over which it is
+/// satisfiable if it is satisfiable at all (Ge and de Moura 2009; Abadi, Rabinovich and Sagiv
+/// 2010).
 ///
 /// There are at most 400 terms, and at most 1,000,000 nodes where each `forall` is written out over
 /// its terms; else both are counted, and no term is listed for that. The counts are sums along the
@@ -76,9 +77,9 @@ pub fn herbrand(
     }
 }
 
-/// Lists the ground terms of a formula that arise within two rounds of applying functions and Skolem
-/// variables, each once; None exactly where they, or the nodes of the formula with each `forall`
-/// written out over them, are more than [`herbrand`] takes.
+/// Lists the ground terms of a formula that arise within two rounds of applying functions and
+/// Skolem variables, each once; None exactly where they, or the nodes of the formula with each
+/// `forall` written out over them, are more than [`herbrand`] takes.
 pub fn shallow(
     alloc: Global,
     arena: &Arena,

@@ -11,13 +11,8 @@ use crate::counts::{counts_within, total};
 use crate::sizes::nodes_over;
 use crate::terms::Basis;
 use sc_formula::{Arena, Signature};
+use sc_terms::limits::{MOST_NODES, MOST_TERMS};
 use std::alloc::{AllocError, Global};
-
-/// The terms at most.
-const MOST_TERMS: u64 = 400;
-
-/// The nodes of the formula with each `forall` written out over its terms, at most.
-const MOST_NODES: u64 = 1_000_000;
 
 /// How many terms and nodes an instantiation has. A count stays at the last number of 64 bits.
 #[derive(Clone, Copy, Debug)]

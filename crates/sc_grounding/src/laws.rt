@@ -63,8 +63,8 @@ pub fn inputs_are_facts()
 {}
 
 /// Where the variables of facts have the values that an assignment gives these, and meet the
-/// clauses, the assignment meets the clauses on facts and the formula is read by it; and where it is
-/// so, there are such values.
+/// clauses, the assignment meets the clauses on facts and the formula is read by it; and where it
+/// is so, there are such values.
 pub fn ground_clauses_are_readings()
     ensures sound { (g : Signature) (f : Formula) (terms : List GroundTerm) (cs : List Clause)
         (nodes : List Node) (made : Instances) (facts : List Fact) (clauses : List (List Literal))

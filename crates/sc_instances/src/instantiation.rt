@@ -40,8 +40,8 @@ fn last_missing(missing: &[Instance], root: Instance) -> Instance
     missing.last().copied().unwrap_or(root)
 }
 
-/// Takes one step: the gate of the instance that was missing last, or the instances that are missing
-/// for it.
+/// Takes one step: the gate of the instance that was missing last, or the instances that are
+/// missing for it.
 fn step(
     alloc: Global,
     source: Source<'_>,
@@ -75,9 +75,9 @@ fn step(
 /// ground terms and the existence of terms are inputs, equal ones shared.
 ///
 /// An instance of a part that has no `exists` depends on the terms of its own variables alone, and
-/// equal instances are made once; so time goes with the different instances. What waits for the gates
-/// of its parts is a list, and nothing recurses. As many steps as there are numbers of 64 bits count
-/// as memory that is not there.
+/// equal instances are made once; so time goes with the different instances. What waits for the
+/// gates of its parts is a list, and nothing recurses. As many steps as there are numbers of 64
+/// bits count as memory that is not there.
 pub fn instantiate(
     alloc: Global,
     arena: &Arena,
@@ -86,7 +86,8 @@ pub fn instantiate(
     terms: Terms,
 ) -> Result<Instances, AllocError>
     requires { IsFormula arena.now id }
-    ensures { IfOk result (AreInstancesOf signature.now arena.now (formula_of arena.now id) (terms_in
+    ensures { IfOk result (AreInstancesOf signature.now arena.now (formula_of arena.now id)
+        (terms_in
         terms)) }
 {
     let _nodes = arena.len();

@@ -12,7 +12,8 @@ use std::alloc::{AllocError, Global};
 /// The numbers of the terms in a list.
 pub(crate) fn items_of(alloc: Global, terms: &TermArena, list: u32) -> Result<Vec<u32>, AllocError>
     requires { IsList terms.now list }
-    ensures { IfOk result (λ ids. AreTermsAt terms.now ids.items (list_of (list_at terms.now list))) }
+    ensures { IfOk result (λ ids. AreTermsAt terms.now ids.items (list_of
+        (list_at terms.now list))) }
 {
     let mut ids = Vec::new(alloc);
     let mut at = list;

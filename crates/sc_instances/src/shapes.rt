@@ -11,13 +11,13 @@ use std::alloc::{AllocError, Global};
 /// What tells instances of a formula apart.
 #[derive(Clone, Copy, Debug)]
 pub(crate) struct Shape {
-    /// Whether it has an `exists`. If not, an instance does not depend on the terms of all `forall`s
-    /// above, but on those of its own variables alone.
+    /// Whether it has an `exists`. If not, an instance does not depend on the terms of all
+    /// `forall`s above, but on those of its own variables alone.
     pub(crate) exists: bool,
     /// How many quantifiers it has as a tree.
     pub(crate) quantifiers: u32,
-    /// A bit for each variable that occurs, by the number of quantifiers above that of the variable.
-    /// From 64 on each counts as one that does.
+    /// A bit for each variable that occurs, by the number of quantifiers above that of the
+    /// variable. From 64 on each counts as one that does.
     pub(crate) variables: u64,
 }
 

@@ -119,8 +119,8 @@ fn procedures(
 }
 
 /// Searches for an assignment that meets each clause and whose equalities and differences have a
-/// model; None exactly where there is none. These values are tried first, but for variables that are
-/// equalities or differences.
+/// model; None exactly where there is none. These values are tried first, but for variables that
+/// are equalities or differences.
 ///
 /// The terms are numbers below `terms`, of which those in `fixed` are pairwise different, and those
 /// of differences numbers below `numbers`, of which 0 is zero. `atoms` has one entry for each of

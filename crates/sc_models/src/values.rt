@@ -13,8 +13,8 @@ use sc_formula::{FunSig, Range, SVal};
 use sqlite_items::Items;
 use std::alloc::{AllocError, Global};
 
-/// What functions have, by what was found, the numbers of the elements of each sort, and the defaults
-/// of the sorts.
+/// What functions have, by what was found, the numbers of the elements of each sort, and the
+/// defaults of the sorts.
 #[derive(Clone, Copy)]
 pub(crate) struct Source<'a> {
     pub(crate) found: &'a Found,

@@ -1,14 +1,15 @@
 -- How much a database holds, and how much it may.
 use Rattle.std.specs.Prelude.{◌≤◌, ℕ, ◌+◌, ◌-◌, ◌*◌, List, length}
 use Rattle.std.specs.List.{sum_by}
+use Rattle.sc_records.specs.declared.limits.TheConstants.{MOST_RECORDS, MOST_WEIGHT}
 use Rattle.sc_data.specs.Values.{Value, Flag, Num, Str, Id, Ids, Nothing, Just}
 use Rattle.sc_data.specs.Database.{Slot, Record, Table, Database}
 
 abbrev pub most_records : ℕ
-most_records = 20000
+most_records = MOST_RECORDS
 
 abbrev pub most_weight : ℕ
-most_weight = 33554432
+most_weight = MOST_WEIGHT
 
 -- 1, the bytes of a text, also in an option, and 8 for each id of a set
 abbrev pub weight_of : Value → ℕ

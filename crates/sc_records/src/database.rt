@@ -22,6 +22,7 @@ ghost use Rattle.sc_records.specs.Renumbered.{renumbered_table};
 ghost use Rattle.sc_schema.specs.SchemaViews.{field_info_of, model_info_of, schema_of};
 
 use crate::data_err::{DataErr, Limit};
+use crate::limits::{MOST_RECORDS, MOST_WEIGHT};
 use crate::principals::{has_static, is_marked};
 use crate::record::{Record, Slot};
 use crate::references::first_reference;
@@ -32,18 +33,10 @@ use crate::table::{Table, record_in};
 use crate::value::Value;
 use crate::weights::{count_in, slots_weight, weight, weight_in, without_row, without_value};
 use sc_data::Principal;
+use sc_data::limits::LAST_ID;
 use sc_schema::{FieldInfo, FieldNo, ModelInfo, ModelNo, Schema};
 use std::alloc::{AllocError, Global};
 use std::marker::Model;
-
-/// How many records a database holds at most.
-const MOST_RECORDS: usize = 20_000;
-
-/// How much a database weighs at most.
-const MOST_WEIGHT: u64 = 33_554_432;
-
-/// The last id of a record.
-const LAST_ID: u64 = 9_223_372_036_854_775_806;
 
 /// A database: for each model its records by rising id. Contracts see its tables.
 #[derive(Drop)]

@@ -12,6 +12,7 @@
 //! | `principals` | principals of a schema |
 //! | `numbers` | the numbers of a schema numbered anew |
 //! | `laws` | laws over the definitions |
+//! | `limits` | how much a database holds |
 //!
 //! `specs/Views.antt` says which plain data the types stand for.
 #![tactic(auto)]
@@ -19,6 +20,7 @@
 mod data_err;
 mod database;
 mod laws;
+pub mod limits;
 mod numbers;
 mod principals;
 mod record;

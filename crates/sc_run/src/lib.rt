@@ -2,8 +2,8 @@
 //!
 //! `run` answers the words of the command line over the objects that it is handed: a shelf of files
 //! and a sink for the report. It goes through stages: the words, the text and the types of each
-//! file in turn, and the check of the script. The first stage that refuses decides, else the outcome
-//! of the check.
+//! file in turn, and the check of the script. The first stage that refuses decides, else the
+//! outcome of the check.
 //!
 //! | module | holds |
 //! |---|---|

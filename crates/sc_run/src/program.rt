@@ -47,7 +47,8 @@ pub fn run<F: Shelf, W: Sink>(alloc: Global, words: &[Txt], shelf: &mut F, out: 
     ensures headline { IfSome (check_of words.now)
         (λ names. Headline (F.told shelf.old) names (W.told out.old) (W.told out.new) result) }
 
-    // The shelf is read and the output is written; where no files are to be checked, nothing is read.
+    // The shelf is read and the output is written; where no files are to be checked, nothing is
+    // read.
     ensures shelf { IsRead F.told F.faults shelf.old shelf.new (result ≡ Status.ReadFault) }
     ensures out { IsWritten W.faults out.old out.new (IsSilent result) (result
         ≡ Status.WriteFault) }

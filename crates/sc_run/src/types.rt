@@ -74,7 +74,8 @@ pub fn typed_script(
     requires steady { IsSteady (schema_of schema.now) }
     requires nothing_added { (schema_of schema.now).added ≡ [] }
     requires spelled { (text : List ℕ) × IsScriptText text script.now }
-    ensures types { ComesTo (TypesScript name.now (plain_of schema.now) script.now) script_of result }
+    ensures types { ComesTo (TypesScript name.now
+        (plain_of schema.now) script.now) script_of result }
     ensures script { IfOk result (λ t. IsScript (script_of t)) }
 {
     have_texts(script.commands.as_slice());

@@ -17,12 +17,10 @@ ghost use Rattle.sc_scripts.specs.Counting.{counted_at};
 
 use crate::sizes::Sizes;
 use sc_schema::{FieldInfo, ModelInfo, TCommand, TInit, TPolicy, TTy};
+use sc_specs::limits::MOST_SIZE;
 use sc_typing::TypeErr;
 use std::alloc::Global;
 use std::rc::Rc;
-
-/// How large a formula a policy or an initialiser may become.
-const MOST_SIZE: u32 = 20_000;
 
 /// The size is within the limit; a fault stands at the place.
 fn is_small(size: u32, at: u32) -> Result<(), TypeErr>

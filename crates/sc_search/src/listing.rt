@@ -33,8 +33,8 @@ fn all_clauses(
     Ok(clauses)
 }
 
-/// The clauses that a search begins with: those of a table, and those of congruence only where these
-/// are few.
+/// The clauses that a search begins with: those of a table, and those of congruence only where
+/// these are few.
 pub(crate) fn first_clauses(
     alloc: Global,
     arena: &Arena,

@@ -234,8 +234,8 @@ fn round_by(
     found_for(alloc, arena, signature, spoken, &clauses)
 }
 
-/// How many rounds a search has at most. Each adds a clause of congruence that all before lack, so a
-/// search ends long before.
+/// How many rounds a search has at most. Each adds a clause of congruence that all before lack, so
+/// a search ends long before.
 const MOST_ROUNDS: u32 = u32::MAX;
 
 /// What is found for instances with their vocabulary. Clauses of congruence are added where what a
@@ -315,8 +315,8 @@ fn tabled(spoken: Spoken, found: Found) -> Tabled
     }
 }
 
-/// Searches for a table by which a formula in negation normal form is read over ground terms that are
-/// formed of each other; None exactly where no structure passes the formula over them.
+/// Searches for a table by which a formula in negation normal form is read over ground terms that
+/// are formed of each other; None exactly where no structure passes the formula over them.
 ///
 /// The terms may be said to be closed: then the table names no others.
 pub fn find_table(

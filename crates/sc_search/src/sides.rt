@@ -68,8 +68,8 @@ fn is_listed_anywhere(words: &Words, id: u32) -> bool
     is_in(&words.named, id) || is_in(&words.others, id)
 }
 
-/// Whether a number is that of a term of which a table tells. The numbers stand in their order, so that
-/// they are found at once; the lists are read whole for one that is not.
+/// Whether a number is that of a term of which a table tells. The numbers stand in their order, so
+/// that they are found at once; the lists are read whole for one that is not.
 fn is_listed(words: &Words, id: u32) -> bool
     ensures { result ≡ true → Contains (words.now.named.items ++ words.now.others.items) id }
 {

@@ -70,8 +70,8 @@ fn few_variables(vars: u32, halves: &[FactNode]) -> Result<u32, AllocError>
     Ok(count as u32)
 }
 
-/// Searches for an assignment that meets clauses whose equalities and differences have a model, where
-/// so many terms are followed by texts, which are pairwise different.
+/// Searches for an assignment that meets clauses whose equalities and differences have a model,
+/// where so many terms are followed by texts, which are pairwise different.
 fn search_checked(
     alloc: Global,
     terms: u32,
@@ -216,8 +216,8 @@ fn solve_with(
     )
 }
 
-/// Searches for values that meet clauses in which facts are as in a lawful model; None only where there
-/// are no such values and no such model.
+/// Searches for values that meet clauses in which facts are as in a lawful model; None only where
+/// there are no such values and no such model.
 pub(crate) fn solve(
     alloc: Global,
     reader: Reader<'_>,

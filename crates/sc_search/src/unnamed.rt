@@ -60,8 +60,8 @@ fn named_calls(
     Ok(firsts)
 }
 
-/// The classes of terms, where a record of which nothing is said but that it is there is the same as
-/// the first that its function gives at the same argument.
+/// The classes of terms, where a record of which nothing is said but that it is there is the same
+/// as the first that its function gives at the same argument.
 pub(crate) fn with_unnamed(
     alloc: Global,
     reader: Reader<'_>,

@@ -35,7 +35,8 @@ pub fn try_assert<T: Theory>(
     ensures why { let all = T.literals theory.old ++ option_to_list literal in
         OnFalse result (IsCore (T.models theory.old) T.meets all core.new.items) }
     ensures list { T.literals theory.new
-        ≡ (if result then T.literals theory.old ++ option_to_list literal else T.literals theory.old) }
+        ≡ (if result then T.literals theory.old
+        ++ option_to_list literal else T.literals theory.old) }
     ensures capacity { T.capacity theory.new ≡ T.capacity theory.old }
     ensures takes { T.takes theory.new ≡ T.takes theory.old }
     ensures models { T.models theory.new ≡ T.models theory.old }

@@ -138,9 +138,9 @@ impl<T: Theory> Context<T> {
         &self.trail
     }
 
-    /// The literal of the same variable that the model which the theory has at hand makes true, where
-    /// the variable has literals of the theory: deciding it is refused by no theory whose two literals
-    /// of the variable deny each other.
+    /// The literal of the same variable that the model which the theory has at hand makes true,
+    /// where the variable has literals of the theory: deciding it is refused by no theory whose two
+    /// literals of the variable deny each other.
     pub fn inclined(&self, literal: PLit) -> PLit
         requires { literal.var < self.now.vars }
         ensures var { result.var ≡ literal.var }
@@ -171,7 +171,8 @@ impl<T: Theory> Context<T> {
         self.trail.entries().len()
     }
 
-    /// Makes a literal true, unless the theory refuses it. Then the literals that are why get marks.
+    /// Makes a literal true, unless the theory refuses it. Then the literals that are why get
+    /// marks.
     pub fn assign(&mut self, entry: Entry, marks: &mut [bool]) -> bool
         requires within { entry.literal.var < self.old.vars }
         requires unset { value_in self.old.entries entry.literal.var ≡ None }
@@ -204,7 +205,8 @@ impl<T: Theory> Context<T> {
             (λ e. self.old.entries ≡ e ∷ self.new.entries) }
         ensures follows { Follows (Lawful T.models T.meets self.old) self.old.entries }
         ensures trail { IsTrail self.old.vars self.old.entries }
-        ensures in_step { T.literals self.new.theory ≡ trail_literals self.new.atoms self.new.entries }
+        ensures in_step { T.literals self.new.theory
+            ≡ trail_literals self.new.atoms self.new.entries }
     {
         let entry = self.trail.pop()?;
         if theory_literal(self.atoms.as_slice(), entry.literal).is_some() {
@@ -271,7 +273,8 @@ impl<T: Theory> Context<T> {
         requires within { literal.var < self.now.vars }
         requires unset { value_in self.now.entries literal.var ≡ None }
         requires one_each { length marks.now ≡ self.now.vars }
-        requires forced { ForcesMarked (Lawful T.models T.meets self.now) marks.now self.now.entries literal }
+        requires forced { ForcesMarked
+            (Lawful T.models T.meets self.now) marks.now self.now.entries literal }
         requires room { clause.old.capacity ≡ self.now.vars }
         ensures items { clause.new.items ≡ collected literal marks.now self.now.entries }
         ensures entailed { IsEntailed (Lawful T.models T.meets self.now) clause.new.items }

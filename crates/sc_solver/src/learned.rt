@@ -16,9 +16,9 @@ use std::marker::Model;
 use std::mem;
 
 /// Clauses that were learned, with room for so many. From time to time those are forgotten that had
-/// least part in late conflicts (Eén and Sörensson, "An extensible SAT-solver", 2003): which they are
-/// rests on no proof. A clause is named by its slot, which `reduce` changes. Contracts see the clauses
-/// and the room for them, and how many literals a clause has at most.
+/// least part in late conflicts (Eén and Sörensson, "An extensible SAT-solver", 2003): which they
+/// are rests on no proof. A clause is named by its slot, which `reduce` changes. Contracts see the
+/// clauses and the room for them, and how many literals a clause has at most.
 #[derive(Drop)]
 pub struct Learned {
     clauses: Clauses,
@@ -40,8 +40,8 @@ impl Model for Learned {
 }
 
 impl Learned {
-    /// Nothing learned, with room for so many clauses and for so many literals in all, beside so many
-    /// clauses that are given.
+    /// Nothing learned, with room for so many clauses and for so many literals in all, beside so
+    /// many clauses that are given.
     pub fn new(
         alloc: Global,
         most: usize,
@@ -94,8 +94,8 @@ impl Learned {
         !self.has_room() || self.allowance.is_spent(self.clauses.len(), set)
     }
 
-    /// Puts a clause behind the others, and gives its slot. Where there is no room for it, the others
-    /// are forgotten.
+    /// Puts a clause behind the others, and gives its slot. Where there is no room for it, the
+    /// others are forgotten.
     pub fn push(&mut self, clause: &[PLit]) -> usize
         requires { length clause.now ≤ self.old.width }
         ensures behind { HasRoom self.old.clauses (length clause.now)
@@ -117,7 +117,8 @@ impl Learned {
         requires { literals ≤ self.old.width }
         ensures room { HasRoom self.new.clauses literals }
         ensures same { HasRoom self.old.clauses literals → self.new ≡ self.old }
-        ensures list { (learned_list self.new ≡ learned_list self.old) ⊎ (learned_list self.new ≡ []) }
+        ensures list { (learned_list self.new ≡ learned_list self.old) ⊎ (learned_list self.new
+            ≡ []) }
         ensures width { self.new.width ≡ self.old.width }
     {
         if !self.clauses.has_room(literals) {
@@ -192,7 +193,8 @@ fn keep_clause(
     to: &mut Clauses,
 )
     requires { slot < length from.now.list }
-    ensures contained { All (Contains from.now.list) to.old.list → All (Contains from.now.list) to.new.list }
+    ensures contained { All (Contains from.now.list) to.old.list →
+        All (Contains from.now.list) to.new.list }
     ensures literal_room { to.old.literal_room ≤ to.new.literal_room }
     ensures clause_room { to.old.clause_room ≤ to.new.clause_room }
 {
@@ -205,7 +207,8 @@ fn keep_clause(
 /// Puts the clause of a slot behind others, where there is room for it.
 fn copy_clause(from: &Clauses, slot: usize, to: &mut Clauses)
     requires { slot < length from.now.list }
-    ensures contained { All (Contains from.now.list) to.old.list → All (Contains from.now.list) to.new.list }
+    ensures contained { All (Contains from.now.list) to.old.list →
+        All (Contains from.now.list) to.new.list }
     ensures literal_room { to.old.literal_room ≤ to.new.literal_room }
     ensures clause_room { to.old.clause_room ≤ to.new.clause_room }
 {

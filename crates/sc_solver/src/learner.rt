@@ -79,7 +79,8 @@ impl<T: Theory> Model for Learner<T> {
       preferences = s.preferences;
     } };
 
-    ghost invariant = { λ s. IsLearner T.models T.meets s.state (learned_list s.learned) s.learned.width
+    ghost invariant = { λ s. IsLearner T.models T.meets s.state
+        (learned_list s.learned) s.learned.width
         (vec_len s.marks) (vec_len s.reasons) (length s.preferences.scores) s.draft.capacity s.watches };
 }
 
@@ -158,7 +159,8 @@ impl<T: Theory> Learner<T> {
         self.preferences.note(literal);
     }
 
-    /// Makes a literal true, unless the theory refuses it. Then the literals that are why get marks.
+    /// Makes a literal true, unless the theory refuses it. Then the literals that are why get
+    /// marks.
     fn set(&mut self, entry: Entry) -> bool
         requires within { entry.literal.var < self.old.state.vars }
         requires unset { value_in self.old.state.entries entry.literal.var ≡ None }
@@ -173,7 +175,8 @@ impl<T: Theory> Learner<T> {
         ensures taken { OnTrue result (self.new.state.entries ≡ entry ∷ self.old.state.entries) }
         ensures refused { OnFalse result (self.new.state.entries ≡ self.old.state.entries) }
         ensures unmarked { OnTrue result (self.new.marks ≡ self.old.marks) }
-        ensures why { OnFalse result (ForcesMarked (Lawful T.models T.meets self.old.state) self.new.marks
+        ensures why { OnFalse result (ForcesMarked
+            (Lawful T.models T.meets self.old.state) self.new.marks
             self.old.state.entries (negated entry.literal)) }
         ensures room { length self.old.state.entries < self.old.state.vars }
     {
@@ -193,7 +196,8 @@ impl<T: Theory> Learner<T> {
           reasons = slice_set self.old.reasons literal.var reason;
           preferences = noted self.old.preferences literal;
         } }
-        ensures reached { IsReached T.literals T.models T.meets result self.new.marks self.new.state }
+        ensures reached { IsReached T.literals T.models T.meets result self.new.marks
+            self.new.state }
         ensures set { IsFollowed self.old.state.entries self.new.state.entries literal result }
         ensures less { work result self.new.state ≤ rest self.old.state.vars self.old.state.entries }
         ensures room { length self.old.state.entries < self.old.state.vars }
@@ -216,7 +220,8 @@ impl<T: Theory> Learner<T> {
         requires within { literal.var < self.old.state.vars }
         requires unset { value_in self.old.state.entries literal.var ≡ None }
         ensures problem { SameProblem T.capacity T.takes T.models self.old.state self.new.state }
-        ensures reached { IsReached T.literals T.models T.meets result self.new.marks self.new.state }
+        ensures reached { IsReached T.literals T.models T.meets result self.new.marks
+            self.new.state }
         ensures less { work result self.new.state < work Progress.Open self.old.state }
     {
         let entry = Entry {
@@ -232,7 +237,8 @@ impl<T: Theory> Learner<T> {
     /// Goes on by a conflict, a unit or a decision.
     fn advance(&mut self) -> Progress
         ensures problem { SameProblem T.capacity T.takes T.models self.old.state self.new.state }
-        ensures reached { IsReached T.literals T.models T.meets result self.new.marks self.new.state }
+        ensures reached { IsReached T.literals T.models T.meets result self.new.marks
+            self.new.state }
         ensures less { work result self.new.state < work Progress.Open self.old.state }
     {
         let step = self.scan();
@@ -254,9 +260,11 @@ impl<T: Theory> Learner<T> {
 
     /// Looks at all clauses once each variable is set.
     fn finish(&mut self) -> Progress
-        requires { (var : ℕ) → var < self.old.state.vars → value_in self.old.state.entries var ≢ None }
+        requires { (var : ℕ) → var < self.old.state.vars →
+            value_in self.old.state.entries var ≢ None }
         ensures problem { SameProblem T.capacity T.takes T.models self.old.state self.new.state }
-        ensures reached { IsReached T.literals T.models T.meets result self.new.marks self.new.state }
+        ensures reached { IsReached T.literals T.models T.meets result self.new.marks
+            self.new.state }
         ensures less { work result self.new.state < work Progress.Open self.old.state }
     {
         let found = self.state.find_unit(0);
@@ -276,7 +284,8 @@ impl<T: Theory> Learner<T> {
         requires { IsRefutedMarked (Lawful T.models T.meets self.old.state) self.old.marks
             self.old.state.entries }
         ensures problem { SameProblem T.capacity T.takes T.models self.old.state self.new.state }
-        ensures reached { IsReached T.literals T.models T.meets result self.new.marks self.new.state }
+        ensures reached { IsReached T.literals T.models T.meets result self.new.marks
+            self.new.state }
         ensures less { work result self.new.state < work Progress.Refuted self.old.state }
     {
         let Some(literal) = self.pop_to_point() else {
@@ -285,8 +294,8 @@ impl<T: Theory> Learner<T> {
         self.conclude(literal)
     }
 
-    /// Counts a conflict, and forgets clauses where more were learned than are to be kept. A restart is
-    /// due where there is no room to learn one clause more even so.
+    /// Counts a conflict, and forgets clauses where more were learned than are to be kept. A
+    /// restart is due where there is no room to learn one clause more even so.
     fn count(&mut self, restarts: &mut Restarts)
         ensures restarts { restarts.new ≡ restarts.old }
         ensures kept { self.new ≡ record self.old {
@@ -306,7 +315,8 @@ impl<T: Theory> Learner<T> {
     pub fn run(&mut self) -> bool
         ensures problem { SameProblem T.capacity T.takes T.models self.old.state self.new.state }
         ensures found { OnTrue result (IsSolved T.literals T.models T.meets self.new.state) }
-        ensures none_left { OnFalse result (IsExhausted T.literals T.models T.meets self.new.state) }
+        ensures none_left { OnFalse result
+            (IsExhausted T.literals T.models T.meets self.new.state) }
     {
         let mut restarts = Restarts::new();
         let mut progress = Progress::Open;

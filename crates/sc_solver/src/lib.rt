@@ -1,11 +1,11 @@
 //! A clause solver over a decision procedure, proved once for each `Theory`.
 //!
 //! Clauses are over numbered variables. A variable may be an atom: then it stands for a literal of
-//! the theory where it is true, and for another where it is false. A literal that alone can meet its
-//! clause is made true, else a variable is decided. The theory refuses a literal as soon as the
-//! literals of the atoms that are set have no model. From each conflict a clause is learned (that of
-//! the first unique implication point: Marques-Silva and Sakallah, 1999; Zhang et al., 2001), and the
-//! search goes back over all decisions that had no part in it.
+//! the theory where it is true, and for another where it is false. A literal that alone can meet
+//! its clause is made true, else a variable is decided. The theory refuses a literal as soon as the
+//! literals of the atoms that are set have no model. From each conflict a clause is learned (that
+//! of the first unique implication point: Marques-Silva and Sakallah, 1999; Zhang et al., 2001),
+//! and the search goes back over all decisions that had no part in it.
 //!
 //! - `solver`: `Solver`, what callers see, and `Answer`.
 //! - `learner`: the steps of a search, with its modules `scanning` (what is met next), `explaining`

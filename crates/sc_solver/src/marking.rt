@@ -30,7 +30,8 @@ pub fn mark_clause(trail: &Trail, clause: &[PLit], but: Option<PLit>, marks: &mu
     true
 }
 
-/// Whether each literal of the clause but for `literal` is false and marked, and of another variable.
+/// Whether each literal of the clause but for `literal` is false and marked, and of another
+/// variable.
 pub fn is_marked_but(trail: &Trail, clause: &[PLit], literal: PLit, marks: &[bool]) -> bool
     requires within { IsWithin trail.now.vars clause.now }
     requires one_each { length marks.now ≡ trail.now.vars }
@@ -84,7 +85,8 @@ pub fn mark_places(places: &[u32], positions: &[u32], marks: &mut [bool])
 /// Puts the variable at the end of the list, where there is a literal of the theory for it.
 pub fn push_place<L: Copy>(places: &mut Vec<u32>, literal: Option<L>, var: u32)
     requires { vec_len places.old < vec_capacity places.old }
-    ensures items { places.new.items ≡ places.old.items ++ option_to_list (option_map (λ _. var) literal) }
+    ensures items { places.new.items ≡ places.old.items
+        ++ option_to_list (option_map (λ _. var) literal) }
     ensures capacity { vec_capacity places.old ≤ vec_capacity places.new }
 {
     if literal.is_some() {

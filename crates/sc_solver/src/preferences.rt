@@ -23,8 +23,8 @@ const SCALE: u64 = 1 << 32;
 /// Which variable is decided next, and how: the one that had most part in the latest conflicts, to
 /// the value that it had last (Moskewicz et al., "Chaff", 2001; Pipatsrisawat and Darwiche, 2007),
 /// if it is no atom: the theory says how those are decided.
-/// Contracts see the score of each variable, from 0 to `u64::MAX`, the value that it had last, and the
-/// step by which a score is bumped.
+/// Contracts see the score of each variable, from 0 to `u64::MAX`, the value that it had last, and
+/// the step by which a score is bumped.
 #[derive(Drop)]
 pub struct Preferences {
     scores: Vec<u64>,
@@ -112,15 +112,16 @@ impl Preferences {
         self.heap.insert(var, self.scores.as_slice());
     }
 
-    /// The literal of a variable that is not set, where there is one: of the first in the heap, with
-    /// the value that it had last.
+    /// The literal of a variable that is not set, where there is one: of the first in the heap,
+    /// with the value that it had last.
     pub fn choose(&mut self, trail: &Trail) -> Option<PLit>
         requires { trail.now.vars ≡ length self.old.scores }
         ensures same { self.new ≡ self.old }
         ensures unset { MatchOption result
             ((var : ℕ) → var < trail.now.vars → value_in trail.now.entries var ≢ None)
             (λ l. (l.var < trail.now.vars) × (value_in trail.now.entries l.var ≡ None)) }
-        ensures last_value { IfSome result (λ l. l.plus ≡ slice_index_or self.old.values l.var false) }
+        ensures last_value { IfSome result (λ l. l.plus
+            ≡ slice_index_or self.old.values l.var false) }
     {
         for _ in 0..self.scores.len() {
             let Some(var) = self.heap.pop(self.scores.as_slice()) else {

@@ -11,8 +11,8 @@ pub const MOST_RESTARTS: u32 = u32::MAX;
 const FIRST_LIMIT: u32 = 100;
 
 /// When a search begins anew: after so many conflicts as the sequence of Luby, Sinclair and
-/// Zuckerman, "Optimal speedup of Las Vegas algorithms" (1993), says. Contracts see how often it may
-/// still do so.
+/// Zuckerman, "Optimal speedup of Las Vegas algorithms" (1993), says. Contracts see how often it
+/// may still do so.
 #[derive(Drop)]
 pub struct Restarts {
     left: u32,

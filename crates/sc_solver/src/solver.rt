@@ -40,8 +40,8 @@ pub enum Prop {
 ///
 /// An assignment is lawful where it meets each clause and the literals of all atoms, each the one
 /// for its variable's value, have a model. All memory but that of clauses which are added is taken
-/// by `new`. The search learns a clause from each conflict and goes back over the decisions that had
-/// no part in it: Marques-Silva and Sakallah, "GRASP: a search algorithm for propositional
+/// by `new`. The search learns a clause from each conflict and goes back over the decisions that
+/// had no part in it: Marques-Silva and Sakallah, "GRASP: a search algorithm for propositional
 /// satisfiability" (1999). Variables can also be assumed, and what follows from the clauses then be
 /// set, with no search and no theory.
 #[derive(Drop)]
@@ -117,7 +117,8 @@ impl<T: Theory + Drop> Solver<T> {
 
 impl<T: Theory> Solver<T> {
     /// Adds a clause, and goes back to no assignment. A search that follows goes on from what the
-    /// last one had set, as far as the clause lets it. Where memory is wanted the solver is as before.
+    /// last one had set, as far as the clause lets it. Where memory is wanted the solver is as
+    /// before.
     pub fn add_clause(&mut self, clause: &[PLit]) -> Result<(), AllocError>
         requires within { IsWithin self.old.vars clause.now }
         requires few { length self.old.clauses + 1 < MOST }
@@ -135,8 +136,8 @@ impl<T: Theory> Solver<T> {
     }
 
     /// Lets a search try a variable that is no atom with this value first, until it has another; an
-    /// atom is tried as the theory's model has it. Which assignment is found may depend on it, and not
-    /// whether one is.
+    /// atom is tried as the theory's model has it. Which assignment is found may depend on it, and
+    /// not whether one is.
     pub fn prefer(&mut self, literal: PLit)
         requires { literal.var < self.old.vars }
         ensures { self.new ≡ self.old }
@@ -153,7 +154,8 @@ impl<T: Theory> Solver<T> {
             SameLiterals (T.literals self.new.theory) (theory_literals assignment self.new.atoms)) }
         ensures values { IfSome self.new.assignment (λ assignment.
             self.new.values ≡ map Some assignment) }
-        ensures has_model { HasModel (T.models self.new.theory) T.meets (T.literals self.new.theory) }
+        ensures has_model { HasModel (T.models self.new.theory) T.meets
+            (T.literals self.new.theory) }
         ensures unsat { result ≡ Answer.Unsat
             → (assignment : List Bool) → ¬ IsLawfulFor T.models T.meets self.new assignment }
         ensures nothing { result ≡ Answer.Unsat → T.literals self.new.theory ≡ [] }
@@ -202,8 +204,8 @@ impl<T: Theory> Solver<T> {
         }
     }
 
-    /// Sets what follows from the clauses alone, until none of them has one literal left, or one has
-    /// none.
+    /// Sets what follows from the clauses alone, until none of them has one literal left, or one
+    /// has none.
     pub fn propagate(&mut self) -> Prop
         ensures end { IsPropagated self.new.values self.new.clauses result }
         ensures follows { Follow self.old.clauses self.old.values self.new.values }
@@ -240,7 +242,8 @@ impl<T: Theory> Solver<T> {
     pub fn value_of(&self, literal: PLit) -> bool
         requires solved { IsSome self.now.assignment }
         requires within { literal.var < self.now.vars }
-        ensures { IfSome self.now.assignment (λ assignment. result ≡ literal_value assignment literal) }
+        ensures { IfSome self.now.assignment (λ assignment. result
+            ≡ literal_value assignment literal) }
     {
         let value = self.learner.value(literal.var).unwrap_or(false);
         literal.value_by(value)

@@ -42,11 +42,11 @@ impl Step {
     }
 }
 
-/// Of each literal the clauses that watch it. A clause watches two of its literals, and is looked at
-/// where one of them becomes false: it then watches another literal, or is a unit or in conflict.
-/// Which clauses are looked at rests on no proof; what a look answers does. The clauses that were
-/// learned have the first slots, and those that are given follow. Contracts see the number of
-/// variables and that of the first slots.
+/// Of each literal the clauses that watch it. A clause watches two of its literals, and is looked
+/// at where one of them becomes false: it then watches another literal, or is a unit or in
+/// conflict. Which clauses are looked at rests on no proof; what a look answers does. The clauses
+/// that were learned have the first slots, and those that are given follow. Contracts see the
+/// number of variables and that of the first slots.
 #[derive(Drop)]
 pub struct Watches {
     alloc: Global,
@@ -70,7 +70,8 @@ impl Model for Watches {
 
     ghost view = { λ w. record { vars = w.vars; learned = w.learned } };
 
-    ghost invariant = { λ w. AreWatches w.vars w.learned (length w.rings.lists) w.rings.nodes w.watched.items };
+    ghost invariant = { λ w. AreWatches w.vars w.learned
+        (length w.rings.lists) w.rings.nodes w.watched.items };
 }
 
 impl Watches {
@@ -178,8 +179,8 @@ impl Watches {
         self.watch(self.learned.saturating_add(place), first, second);
     }
 
-    /// Lets each learned clause watch its latest literals by its slot, and no other clause by one of
-    /// the first slots.
+    /// Lets each learned clause watch its latest literals by its slot, and no other clause by one
+    /// of the first slots.
     pub fn watch_learned(&mut self, trail: &Trail, learned: &Learned)
         requires vars { trail.now.vars ≡ self.old.vars }
         requires within { All (IsWithin trail.now.vars) (learned_list learned.now) }

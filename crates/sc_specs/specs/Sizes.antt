@@ -12,6 +12,7 @@ use Rattle.sc_schema.specs.Schema.{FieldInfo, ModelInfo, Schema}
 use Rattle.sc_typing.specs.declared.type_err.TypeErr.TheVariants.{Expanded}
 use Rattle.sc_typing.specs.Outcome.{Checked}
 use Rattle.sc_specs.specs.InTurn.{all_hold}
+use Rattle.sc_specs.specs.declared.limits.TheConstants.{MOST_SIZE}
 
 -- What is counted: how large a formula a policy becomes over a schema, and an initialiser of a field of the type.
 pub record Sizes : Type 0 where
@@ -20,7 +21,7 @@ pub record Sizes : Type 0 where
 
 -- of a policy and of an initialiser
 abbrev pub most_size : ℕ
-most_size = 20000
+most_size = MOST_SIZE
 
 -- the size is within the limit; a fault stands at the place
 abbrev pub is_small : (size at : ℕ) → Checked (Unit {0})

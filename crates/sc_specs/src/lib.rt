@@ -8,10 +8,12 @@
 //! | `models` | models that are added to a schema |
 //! | `specs` | specifications |
 //! | `laws` | laws over the definitions |
+//! | `limits` | how large policies and initialisers are |
 #![tactic(auto)]
 
 mod grown;
 mod laws;
+pub mod limits;
 mod models;
 mod names;
 mod specs;

@@ -6,18 +6,10 @@ ghost use Rattle.std.specs.Str.{bytes_eq};
 ghost use Rattle.sc_typing.specs.Names.{plain_of};
 ghost use Rattle.sc_specs.specs.NewNames as spec;
 
+use sc_ast::limits::{MOST_FIELDS, MOST_MODELS, MOST_STATICS};
 use sc_schema::Schema;
 use sc_tree::{FieldDef, Named};
 use sc_typing::{TypeErr, model_named, same_name, static_named};
-
-/// How many statics a schema may have.
-const MOST_STATICS: usize = 64;
-
-/// How many models a schema may have.
-const MOST_MODELS: usize = 64;
-
-/// How many fields a model may have.
-const MOST_FIELDS: usize = 64;
 
 /// Whether there may be one more, where so many are there.
 #[tactic(auto, unfolding(crate::specs::NewNames::one_more))]

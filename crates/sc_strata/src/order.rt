@@ -30,8 +30,8 @@ pub(crate) struct Search {
     pub(crate) order: Vec<u32>,
 }
 
-/// Takes places of edges from vertices that are done from the end of a list, and gives the vertex that
-/// the last edge leads from then, if any is left.
+/// Takes places of edges from vertices that are done from the end of a list, and gives the vertex
+/// that the last edge leads from then, if any is left.
 fn last_unfinished(
     graph: &[(u32, u32)],
     places: &mut Vec<usize>,
@@ -134,8 +134,8 @@ impl Search {
         Ok(())
     }
 
-    /// A vertex that is not done and leads to this one, if there is any. Edges from vertices that are
-    /// done are not looked at again.
+    /// A vertex that is not done and leads to this one, if there is any. Edges from vertices that
+    /// are done are not looked at again.
     fn unfinished(&mut self, graph: &[(u32, u32)], to: u32) -> Result<Option<u32>, AllocError>
         requires to { to < length self.old.marks.items }
         requires below { AreEdgesBelow graph.now (length self.old.marks.items) }
@@ -192,8 +192,8 @@ pub(crate) enum Sorted {
     Cycle(Vec<u32>),
 }
 
-/// Sorts the vertices of a graph. The search has at most two steps for a vertex, and a step looks at
-/// one edge and at those that it takes away.
+/// Sorts the vertices of a graph. The search has at most two steps for a vertex, and a step looks
+/// at one edge and at those that it takes away.
 pub(crate) fn sort(alloc: Global, graph: &[(u32, u32)], vertices: u32) -> Result<Sorted, AllocError>
     requires { AreEdgesBelow graph.now vertices }
     ensures { IfOk result (IsSorted graph.now vertices) }

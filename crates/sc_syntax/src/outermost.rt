@@ -8,14 +8,9 @@ ghost use Rattle.sc_syntax.specs.Reads.{Reads, reading};
 use crate::cursor::Cursor;
 use crate::nested::{expr, set};
 use crate::stop::Stop;
+use sc_ast::limits::{MOST_LEVELS, MOST_TOKENS};
 use sc_tree::{Expr, SetExpr};
 use std::alloc::Global;
-
-/// How deep expressions and sets nest at most.
-const MOST_LEVELS: u32 = 64;
-
-/// How many tokens an expression or a set has at most that no other holds.
-const MOST_TOKENS: usize = 1024;
 
 /// How many tokens are looked at. What is read never looks further than one token ahead, so it is
 /// the same as if it were read among all tokens; and it is no deeper than these can nest.

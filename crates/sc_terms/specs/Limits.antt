@@ -1,13 +1,14 @@
 -- How large an instantiation may be.
 use Rattle.std.specs.Prelude.{ℕ}
+use Rattle.sc_terms.specs.declared.limits.TheConstants.{MOST_NODES, MOST_TERMS}
 
 -- the terms at most
 abbrev pub most_terms : ℕ
-most_terms = 400
+most_terms = MOST_TERMS
 
 -- the nodes of the formula with each `forall` written out over its terms, at most
 abbrev pub most_nodes : ℕ
-most_nodes = 1000000
+most_nodes = MOST_NODES
 
 -- a count stays at this number when it would pass it
 abbrev pub most_counted : ℕ

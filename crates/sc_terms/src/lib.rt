@@ -4,6 +4,7 @@
 #![tactic(auto)]
 
 mod laws;
+pub mod limits;
 
 pub use laws::{
     examples_are_counted, needed_is_least, passing_is_cut, passing_is_whole, reading_is_passing,

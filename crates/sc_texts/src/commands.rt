@@ -15,14 +15,12 @@ ghost use Rattle.sc_texts.specs.Turns.{Turns};
 use crate::closed::closed;
 use crate::models::model;
 use crate::of_model::model_command;
+use sc_ast::limits::MOST_COMMANDS;
 use sc_lexer::TokenKind;
 use sc_syntax::{Cursor, Stop};
 use sc_tree::{Command, Named, Script};
 use sqlite_items::Items;
 use std::alloc::Global;
-
-/// How many commands a script may have.
-const MOST_COMMANDS: usize = 256;
 
 /// `CreateModel`.
 #[tactic(auto, using(sc_syntax::proofs::Folds::made_made), unfolding(sc_forms::specs::Reading::read))]

@@ -12,20 +12,12 @@ ghost use Rattle.sc_texts.specs.Items.{fields_from, models_from, statics_from};
 
 use crate::policies::right;
 use crate::types::ty;
+use sc_ast::limits::{MOST_FIELDS, MOST_MODELS, MOST_STATICS};
 use sc_lexer::TokenKind;
 use sc_syntax::{Cursor, Stop};
 use sc_tree::{FieldDef, ModelDef, Named, Policy, Spec};
 use sqlite_items::Items;
 use std::alloc::Global;
-
-/// How many static principals there may be.
-const MOST_STATICS: usize = 64;
-
-/// How many models there may be.
-const MOST_MODELS: usize = 64;
-
-/// How many fields a model may have.
-const MOST_FIELDS: usize = 64;
 
 /// The rights on a field: to read it and to write it.
 #[tactic(auto, unfolding(sc_forms::specs::Reading::read, sc_tree::specs::Grammar::field_rights))]
@@ -112,7 +104,8 @@ fn fields(alloc: Global, cursor: &mut Cursor<'_>) -> Result<Items<FieldDef>, Sto
 /// Whether the records of a model are principals, and the offset of its first token.
 #[tactic(auto, unfolding(sc_forms::specs::Reading::read, sc_tree::specs::Grammar::model_head))]
 fn head(cursor: &mut Cursor<'_>) -> Result<(bool, u32), Stop>
-    ensures { Reads (made (λ v. (v.0, v.1.at)) (reading most_levels form.model_head cursor.old)) result cursor.new }
+    ensures { Reads (made (λ v. (v.0, v.1.at))
+        (reading most_levels form.model_head cursor.old)) result cursor.new }
 {
     if cursor.sees_word(TokenKind::Lower, b"principal") {
         let word = cursor.word(TokenKind::Lower, b"principal")?;

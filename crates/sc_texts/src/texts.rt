@@ -137,7 +137,8 @@ fn script_of(alloc: Global, text: &[u8], tokens: &[Token]) -> Result<Script, Syn
 pub fn parse_spec(alloc: Global, text: &[u8]) -> Result<Spec, SyntaxErr>
     requires { length text.now < 2 ^ 32 }
     ensures ok { IfOk result (λ found. IsSpecText text.now found) }
-    ensures only { IfOk result (λ found. (other : Spec) → IsSpecText text.now other → other ≡ found) }
+    ensures only { IfOk result (λ found. (other : Spec) → IsSpecText text.now other → other
+        ≡ found) }
     ensures refused { IfErr result (λ err. err ≢ SyntaxErr.OutOfMemory →
         IsRefusedAs form.spec_form text.now err) }
     ensures none { IfErr result (λ err. err ≢ SyntaxErr.OutOfMemory →

@@ -14,7 +14,8 @@ use std::alloc::Global;
 /// The name of a model in parentheses.
 #[tactic(auto, unfolding(sc_forms::specs::Reading::read))]
 pub fn model_in_parens(alloc: Global, cursor: &mut Cursor<'_>) -> Result<Named, Stop>
-    ensures { Reads (reading most_levels (parens (mapped named (token Upper))) cursor.old) result cursor.new }
+    ensures { Reads (reading most_levels (parens (mapped named
+        (token Upper))) cursor.old) result cursor.new }
 {
     cursor.sign(TokenKind::ParenOpen)?;
     let model = cursor.upper()?.named(alloc)?;
@@ -72,7 +73,8 @@ pub fn plain_type(alloc: Global, cursor: &mut Cursor<'_>) -> Result<Ty, Stop>
 /// A type.
 #[tactic(auto, unfolding(sc_forms::specs::Reading::read, sc_tree::specs::Grammar::set_type))]
 pub fn ty(alloc: Global, cursor: &mut Cursor<'_>) -> Result<Ty, Stop>
-    ensures { Reads (reading most_levels (either form.set_type form.plain_type) cursor.old) result cursor.new }
+    ensures { Reads (reading most_levels
+        (either form.set_type form.plain_type) cursor.old) result cursor.new }
 {
     if cursor.sees_word(TokenKind::Upper, b"Set") {
         return set_type(alloc, cursor);

@@ -178,8 +178,8 @@ fn spoken_words(
 /// speak. Functions at values of which inputs speak are added to the ground terms.
 ///
 /// If the list of terms is closed, only listed terms name elements. The variables are those of the
-/// formula. An input that speaks of what is no atom over the signature, of which instances have none,
-/// counts as memory that is not there.
+/// formula. An input that speaks of what is no atom over the signature, of which instances have
+/// none, counts as memory that is not there.
 pub fn vocabulary_of(
     alloc: Global,
     arena: &Arena,

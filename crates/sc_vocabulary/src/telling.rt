@@ -121,7 +121,8 @@ impl Telling {
         requires marked { AreMarked terms.now self.now }
         requires list { IsList terms.now list }
         ensures { IsTrue result → HaveSorts signature.now (list_of terms.now list) sorts.now
-            × HasEach (Contains (terms_at terms.now self.now.named.items)) (list_of terms.now list) }
+            × HasEach (Contains (terms_at terms.now self.now.named.items))
+            (list_of terms.now list) }
     {
         let mut at = list;
         for sort in sorts {

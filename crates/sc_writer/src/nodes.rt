@@ -6,16 +6,18 @@ ghost use Rattle.sc_formula.specs.Nodes.{IsFormula, formula_of};
 ghost use Rattle.sc_duty.specs.Cases.{atom, constant};
 ghost use Rattle.sc_writer.specs.Terms.{term_data};
 ghost use Rattle.sc_writer.specs.Made.{IsPut, IsSet};
+ghost use Rattle.sc_formula.specs.declared.limits.TheConstants.{MOST_NODES};
 
 use crate::term::Term;
 use sc_formula::Arena;
+use sc_formula::limits::MOST_NODES;
 use std::alloc::AllocError;
 
 /// That there is room for one more node.
 pub(crate) fn room(arena: &Arena) -> Result<(), AllocError>
-    ensures { IfOk result (λ _. length arena.now < 4000000) }
+    ensures { IfOk result (λ _. length arena.now < MOST_NODES) }
 {
-    if arena.len() < 4_000_000 {
+    if arena.len() < MOST_NODES {
         Ok(())
     } else {
         Err(AllocError)

@@ -1,3 +1,4 @@
 pub mod Causes
 pub mod Formula
+pub mod Public
 pub mod Spelling

@@ -32,7 +32,8 @@ pub fn formula_of(alloc: Global, vars: u32, numbers: &[i32]) -> Result<Formula, 
     ensures vars { IfOk result (λ f. f.vars ≡ vars) }
     ensures within { IfOk result (λ f. All (λ clause. IsWithin vars clause.items) f.clauses.items) }
     ensures few { IfOk result (λ f. vec_len f.clauses ≤ length numbers.now) }
-    ensures spelled { IfOk result (λ f. spelled (map (λ clause. clause.items) f.clauses.items) ≡ numbers.now) }
+    ensures spelled { IfOk result (λ f. spelled (map (λ clause. clause.items) f.clauses.items)
+        ≡ numbers.now) }
     ensures causes { IfErr result (IsCause vars numbers.now) }
 {
     let mut clauses = Vec::new(alloc);
@@ -59,8 +60,10 @@ fn take_number(
     ensures within { OnOk result (All (λ clause. IsWithin vars clause.items) clauses.new.items) }
     ensures open_within { OnOk result (IsWithin vars open_clause.new.items) }
     ensures few { OnOk result (vec_len clauses.new ≤ vec_len clauses.old + 1) }
-    ensures spelled { OnOk result (spelled_with (map (λ clause. clause.items) clauses.new.items) open_clause.new.items
-        ≡ spelled_with (map (λ clause. clause.items) clauses.old.items) open_clause.old.items ++ number ∷ []) }
+    ensures spelled { OnOk result (spelled_with (map
+        (λ clause. clause.items) clauses.new.items) open_clause.new.items
+        ≡ spelled_with (map (λ clause. clause.items) clauses.old.items) open_clause.old.items
+        ++ number ∷ []) }
     ensures causes { IfErr result (IsCauseAt vars number) }
 {
     if number == 0 {

@@ -47,7 +47,8 @@ fn main(rt: HostRuntime) -> io::Result<ExitCode> {
 fn solver_for(alloc: Global, formula: &Formula) -> Result<Solver<Equality>, AllocError>
     requires { IsFormula formula.now }
     ensures vars { IfOk result (λ s. s.vars ≡ formula.now.vars) }
-    ensures clauses { IfOk result (λ s. s.clauses ≡ map (λ clause. clause.items) formula.now.clauses.items) }
+    ensures clauses { IfOk result (λ s. s.clauses
+        ≡ map (λ clause. clause.items) formula.now.clauses.items) }
     ensures unset { IfOk result (λ s. s.assignment ≡ None) }
 {
     let vars = formula.vars as usize;

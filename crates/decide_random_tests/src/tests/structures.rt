@@ -113,8 +113,8 @@ fn add_structures(
     Ok(())
 }
 
-/// Each structure of at most three elements. Where sort 1 has none, sort 0 has none: a total function
-/// goes from it to sort 1.
+/// Each structure of at most three elements. Where sort 1 has none, sort 0 has none: a total
+/// function goes from it to sort 1.
 pub(crate) fn all_structures(alloc: Global) -> Result<Vec<Structure>, AllocError> {
     let mut structures = Vec::new(alloc);
     for (first, second) in [(0, 0), (0, 1), (0, 2), (0, 3), (1, 1), (1, 2), (2, 1)] {

@@ -22,8 +22,8 @@ fn every_pair(forms: &mut Forms) -> Result<u32, AllocError> {
     forms.forall(0, inner)
 }
 
-/// There are so many elements, of which the first two of sort 0 are the same; the first of sort 1 is
-/// related to one of these, and perhaps not to the other.
+/// There are so many elements, of which the first two of sort 0 are the same; the first of sort 1
+/// is related to one of these, and perhaps not to the other.
 fn many(alloc: Global, differ: bool) -> Result<Kind, AllocError> {
     let signature = related_back(alloc)?;
     let mut forms = Forms::new(alloc)?;
@@ -62,7 +62,8 @@ fn pairs_that_are_related(rt: HostRuntime) -> Result<(), Fail> {
     Ok(())
 }
 
-/// How many elements of sort 0 are named: a function and a variable at these have 22,500 pairs each.
+/// How many elements of sort 0 are named: a function and a variable at these have 22,500 pairs
+/// each.
 const ARGUMENTS: u32 = 150;
 
 /// Each element has a truth value, and there is one of sort 1 for it.
@@ -75,8 +76,8 @@ fn every_flag(forms: &mut Forms) -> Result<u32, AllocError> {
     forms.forall(0, inner)
 }
 
-/// There are so many elements, of which the first two are the same; the first is true, and the second
-/// is not, or nothing is said of it.
+/// There are so many elements, of which the first two are the same; the first is true, and the
+/// second is not, or nothing is said of it.
 fn many_flags(alloc: Global, differ: bool) -> Result<Kind, AllocError> {
     let signature = function_to(alloc, Range::Flag, false)?;
     let mut forms = Forms::new(alloc)?;

@@ -34,8 +34,8 @@ fn is_true_of_some(alloc: Global, structure: &Structure) -> Result<bool, AllocEr
     holds(alloc, structure, &arena, some)
 }
 
-/// Whether there is an element beside which the function is true of each: for each of them the first
-/// of the others decides.
+/// Whether there is an element beside which the function is true of each: for each of them the
+/// first of the others decides.
 fn is_true_of_each_beside_some(alloc: Global, structure: &Structure) -> Result<bool, AllocError> {
     let mut arena = Arena::new(alloc)?;
     let element = arena.mk_bound(0, 1)?;

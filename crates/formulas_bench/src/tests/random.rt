@@ -6,6 +6,7 @@
 ghost use Rattle.std.specs.Prelude.{◌<◌, ◌≤◌, ◌+◌, length, IfOk};
 ghost use Rattle.sc_formula.specs.Nodes.{IsFormula, IsTerm};
 ghost use Rattle.formulas_bench.specs.Kinds.{KeepsKinds};
+ghost use Rattle.sc_formula.specs.declared.limits.TheConstants.{MOST_NODES};
 
 use sc_formula::{Arena, SVal, Structure};
 use sqlite_items::Items;
@@ -31,7 +32,7 @@ impl Random {
 
 /// A variable, maybe out of reach, a number, or a function at one of them.
 fn term(arena: &mut Arena, random: &mut Random) -> Result<u32, AllocError>
-    requires { length arena.old + 2 ≤ 4000000 }
+    requires { length arena.old + 2 ≤ MOST_NODES }
     ensures term { IfOk result (IsTerm arena.new) }
     ensures size { IfOk result (λ id. length arena.new ≤ length arena.old + 2) }
     ensures kept { IfOk result (λ id. KeepsKinds arena.old arena.new) }
@@ -48,7 +49,7 @@ fn term(arena: &mut Arena, random: &mut Random) -> Result<u32, AllocError>
 
 /// An atom.
 fn atom(arena: &mut Arena, random: &mut Random) -> Result<u32, AllocError>
-    requires { length arena.old + 5 ≤ 4000000 }
+    requires { length arena.old + 5 ≤ MOST_NODES }
     ensures formula { IfOk result (IsFormula arena.new) }
     ensures size { IfOk result (λ id. length arena.new ≤ length arena.old + 5) }
     ensures kept { IfOk result (λ id. KeepsKinds arena.old arena.new) }
@@ -66,7 +67,7 @@ fn atom(arena: &mut Arena, random: &mut Random) -> Result<u32, AllocError>
 
 /// The formula with a connective or a quantifier more.
 fn step(arena: &mut Arena, random: &mut Random, last: u32) -> Result<u32, AllocError>
-    requires room { length arena.old + 7 ≤ 4000000 }
+    requires room { length arena.old + 7 ≤ MOST_NODES }
     requires formula { IsFormula arena.old last }
     ensures formula { IfOk result (IsFormula arena.new) }
     ensures size { IfOk result (λ id. length arena.new ≤ length arena.old + 7) }
@@ -93,7 +94,7 @@ fn step(arena: &mut Arena, random: &mut Random, last: u32) -> Result<u32, AllocE
 
 /// A formula of some twelve steps.
 pub fn formula(arena: &mut Arena, random: &mut Random) -> Result<u32, AllocError>
-    requires { length arena.old + 100 ≤ 4000000 }
+    requires { length arena.old + 100 ≤ MOST_NODES }
     ensures formula { IfOk result (IsFormula arena.new) }
     ensures size { IfOk result (λ id. length arena.new ≤ length arena.old + 100) }
 {

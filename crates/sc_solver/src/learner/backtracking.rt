@@ -146,15 +146,16 @@ impl<T: Theory> Learner<T> {
         while self.pop().is_some() {}
     }
 
-    /// Learns from what is marked, goes back over the decisions that have no part in it, and follows
-    /// the literal that it forces.
+    /// Learns from what is marked, goes back over the decisions that have no part in it, and
+    /// follows the literal that it forces.
     pub fn conclude(&mut self, literal: PLit) -> Progress
         requires within { literal.var < self.old.state.vars }
         requires unset { value_in self.old.state.entries literal.var ≡ None }
         requires forced { ForcesMarked (Lawful T.models T.meets self.old.state) self.old.marks
             self.old.state.entries literal }
         ensures problem { SameProblem T.capacity T.takes T.models self.old.state self.new.state }
-        ensures reached { IsReached T.literals T.models T.meets result self.new.marks self.new.state }
+        ensures reached { IsReached T.literals T.models T.meets result self.new.marks
+            self.new.state }
         ensures less { work result self.new.state ≤ rest self.old.state.vars self.old.state.entries }
     {
         self.minimize();

@@ -18,8 +18,8 @@ use crate::reason::Reason;
 use sc_procedure::Theory;
 
 impl<T: Theory> Learner<T> {
-    /// Marks why a literal follows, or where there is none why the trail is refuted, and notes that the
-    /// clause of the reason has part in a conflict.
+    /// Marks why a literal follows, or where there is none why the trail is refuted, and notes that
+    /// the clause of the reason has part in a conflict.
     pub fn explain(&mut self, reason: Reason, literal: Option<PLit>)
         requires { IsBacked (Lawful T.models T.meets self.old.state) self.old.state.entries literal }
         ensures kept { self.new ≡ record self.old { marks = self.new.marks } }
@@ -58,7 +58,8 @@ impl<T: Theory> Learner<T> {
             self.new.marks self.old.state.entries literal) }
         ensures by { MatchOption (clause_by self.old reason)
             ((result ≡ false) × (self.new.marks ≡ self.old.marks))
-            (λ clause. IsMarkedBy self.old.state.entries literal clause self.old.marks self.new.marks
+            (λ clause. IsMarkedBy self.old.state.entries literal clause self.old.marks
+            self.new.marks
             result) }
         ensures each { length self.new.marks ≡ self.old.state.vars }
         ensures is_trail { IsTrail self.old.state.vars self.old.state.entries }
@@ -102,8 +103,8 @@ impl<T: Theory> Learner<T> {
         }
     }
 
-    /// Does so from the oldest literal on, and takes the marks of all literals that no decision came
-    /// before.
+    /// Does so from the oldest literal on, and takes the marks of all literals that no decision
+    /// came before.
     fn minimize_from_oldest(&mut self)
         ensures kept { self.new ≡ record self.old { marks = self.new.marks } }
         ensures fewer { HasMarks self.old.marks self.new.marks }
@@ -117,8 +118,8 @@ impl<T: Theory> Learner<T> {
         }
     }
 
-    /// Takes the mark of the literal at a place of the trail away, counted from the oldest on, where
-    /// it follows from the marked ones that are left. `root` says that nothing before it was
+    /// Takes the mark of the literal at a place of the trail away, counted from the oldest on,
+    /// where it follows from the marked ones that are left. `root` says that nothing before it was
     /// decided, and the result that nothing up to it was.
     fn minimize_at(&mut self, place: usize, root: bool) -> bool
         requires within { place < length self.old.state.entries }
@@ -140,11 +141,12 @@ impl<T: Theory> Learner<T> {
         root
     }
 
-    /// Whether a literal that is set follows from the marked ones without its own mark: by the clause
-    /// of its reason, or at all, which `root` says.
+    /// Whether a literal that is set follows from the marked ones without its own mark: by the
+    /// clause of its reason, or at all, which `root` says.
     fn is_explained(&self, literal: PLit, root: bool) -> bool
         requires within { literal.var < self.now.state.vars }
-        requires root { OnTrue root ((assignment : List Bool) → Lawful T.models T.meets self.now.state assignment
+        requires root { OnTrue root ((assignment : List Bool) →
+            Lawful T.models T.meets self.now.state assignment
             → IsTrue (literal_value assignment literal)) }
         ensures forced { OnTrue result (ForcesMarked (Lawful T.models T.meets self.now.state)
             (slice_set self.now.marks literal.var false) self.now.state.entries literal) }

@@ -11,15 +11,16 @@ use crate::trail::Trail;
 use sc_procedure::Theory;
 
 impl<T: Theory> Learner<T> {
-    /// Forgets about half of the clauses that were learned, where there are more than are to be kept
-    /// while so many variables are set, and none by which a literal was set. The others get other
-    /// slots, by which the reasons name them then.
+    /// Forgets about half of the clauses that were learned, where there are more than are to be
+    /// kept while so many variables are set, and none by which a literal was set. The others get
+    /// other slots, by which the reasons name them then.
     pub fn reduce(&mut self, set: usize)
         ensures kept { self.new ≡ record self.old {
           learned = self.new.learned;
           reasons = self.new.reasons;
         } }
-        ensures fewer { All (Contains (learned_list self.old.learned)) (learned_list self.new.learned) }
+        ensures fewer { All (Contains (learned_list self.old.learned))
+            (learned_list self.new.learned) }
     {
         if self.learned.is_crowded(set) {
             self.hold_reasons();
@@ -55,7 +56,8 @@ impl<T: Theory> Learner<T> {
     /// slots that they get.
     fn forget(&mut self)
         ensures kept { self.new ≡ record self.old { learned = self.new.learned } }
-        ensures fewer { All (Contains (learned_list self.old.learned)) (learned_list self.new.learned) }
+        ensures fewer { All (Contains (learned_list self.old.learned))
+            (learned_list self.new.learned) }
     {
         self.learned.reduce();
         self.watches

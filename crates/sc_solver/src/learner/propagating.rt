@@ -34,8 +34,8 @@ impl<T: Theory> Learner<T> {
         }
     }
 
-    /// Sets what follows from the clauses that are given, in a trail of its own, and gives the place
-    /// of a clause that is in conflict then, if there is one.
+    /// Sets what follows from the clauses that are given, in a trail of its own, and gives the
+    /// place of a clause that is in conflict then, if there is one.
     pub fn propagate(&mut self, trail: &mut Trail) -> Option<usize>
         requires { trail.old.vars ≡ self.old.state.vars }
         ensures kept { self.new ≡ self.old }
@@ -62,7 +62,8 @@ impl<T: Theory> Learner<T> {
     fn find_given(&mut self, trail: &Trail) -> Found
         requires { trail.now.vars ≡ self.old.state.vars }
         ensures kept { self.new ≡ self.old }
-        ensures found { IsFoundIn trail.now.entries self.old.state.clauses result.state result.clause }
+        ensures found { IsFoundIn trail.now.entries self.old.state.clauses result.state
+            result.clause }
         ensures within { All (IsWithin self.old.state.vars) self.old.state.clauses }
     {
         let given = self.state.clauses();

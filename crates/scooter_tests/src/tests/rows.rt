@@ -163,8 +163,8 @@ const ACCEPTED: [Row; 15] = [
     },
 ];
 
-/// A script that leaks, with the first line of its report and a part of what follows. Which witness it
-/// is is left open.
+/// A script that leaks, with the first line of its report and a part of what follows. Which witness
+/// it is is left open.
 struct LeakRow {
     spec: &'static [u8],
     script: &'static [u8],

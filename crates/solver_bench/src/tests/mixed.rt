@@ -68,7 +68,8 @@ fn equality_atom(left: u32, right: u32) -> (MixedLit, MixedLit)
 /// The atoms of plain variables: none.
 fn no_atoms(alloc: Global, count: u32) -> Result<Vec<Option<(MixedLit, MixedLit)>>, AllocError>
     ensures one_each { IfOk result (λ atoms. length atoms.items ≡ count) }
-    ensures taken { IfOk result (λ atoms. All (IsTaken (takes_own (takes_literal 3) (is_literal 3))) atoms.items) }
+    ensures taken { IfOk result (λ atoms. All (IsTaken (takes_own (takes_literal 3)
+        (is_literal 3))) atoms.items) }
 {
     vec![in alloc; None; count as usize]
 }
@@ -82,7 +83,8 @@ fn push_atom(
     requires when_true { IsTrue (takes_own (takes_literal 3) (is_literal 3) atom.0) }
     requires when_false { IsTrue (takes_own (takes_literal 3) (is_literal 3) atom.1) }
     ensures one_more { OnOk result (length atoms.new.items ≡ length atoms.old.items + 1) }
-    ensures taken { OnOk result (All (IsTaken (takes_own (takes_literal 3) (is_literal 3))) atoms.new.items) }
+    ensures taken { OnOk result (All (IsTaken (takes_own (takes_literal 3)
+        (is_literal 3))) atoms.new.items) }
 {
     atoms.push(Some(atom))?;
     Ok(())
@@ -94,8 +96,10 @@ fn atoms(
     plain: u32,
     differences: &[Difference],
 ) -> Result<Vec<Option<(MixedLit, MixedLit)>>, AllocError>
-    ensures one_each { IfOk result (λ atoms. length atoms.items ≡ plain + 3 + length differences.now) }
-    ensures taken { IfOk result (λ atoms. All (IsTaken (takes_own (takes_literal 3) (is_literal 3))) atoms.items) }
+    ensures one_each { IfOk result (λ atoms. length atoms.items
+        ≡ plain + 3 + length differences.now) }
+    ensures taken { IfOk result (λ atoms. All (IsTaken (takes_own (takes_literal 3)
+        (is_literal 3))) atoms.items) }
 {
     let mut atoms = no_atoms(alloc, plain)?;
     push_atom(&mut atoms, equality_atom(0, 1))?;
@@ -188,8 +192,8 @@ pub fn clauses_of(
     Ok(clauses)
 }
 
-/// The same of a solver that is done with. It is dropped by a call, since a drop where a scope ends, or
-/// at a `?`, is proved anew for each vector in it.
+/// The same of a solver that is done with. It is dropped by a call, since a drop where a scope
+/// ends, or at a `?`, is proved anew for each vector in it.
 pub fn last_answer(
     alloc: Global,
     vars: u32,

@@ -73,7 +73,8 @@ fn add_each<T: Theory>(solver: &mut Solver<T>, clauses: &[&[PLit]]) -> Result<()
     requires within { All (λ c. IsWithin solver.old.vars c.now) clauses.now }
     requires few { length solver.old.clauses + length clauses.now < 2000000000 }
     ensures vars { solver.new.vars ≡ solver.old.vars }
-    ensures count { OnOk result (length solver.new.clauses ≡ length solver.old.clauses + length clauses.now) }
+    ensures count { OnOk result (length solver.new.clauses
+        ≡ length solver.old.clauses + length clauses.now) }
 {
     for clause in clauses {
         solver.add_clause(clause)?;
