@@ -1,3 +1,4 @@
+pub mod BrokenLaws
 pub mod CongruentMet
 pub mod Functional
 pub mod KeyLaws

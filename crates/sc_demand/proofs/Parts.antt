@@ -1,7 +1,7 @@
 -- Words among others, and their clauses.
-use Rattle.std.proofs.Common.{◌≡◌, ℕ, ◌∙◌, List, [], ◌∷◌, ◌++◌, ap, subst, map, inl, inr, Contains}
+use Rattle.std.proofs.Common.{◌≡◌, ℕ, ◌∙◌, sym, List, [], ◌∷◌, ◌++◌, ap, subst, map, inl, inr, All, Contains}
 use Rattle.std.specs.List.{flat_map}
-use Rattle.std.proofs.lemmas.List.Elements.{Contains-append_cases, Contains-append_left, Contains-append_right}
+use Rattle.std.proofs.lemmas.List.Elements.{All-nil, All-push, Contains-append_cases, Contains-append_left, Contains-append_right}
 use Rattle.sc_formula.specs.declared.node.Node.{Node}
 use Rattle.sc_formula.specs.declared.structure.Signature.{Signature}
 use Rattle.sc_terms.proofs.Lists.{Contains-head, Contains-tail, Contains-cons_cases, Contains-none, Contains-flat_map, flat_map-Contains}
@@ -18,8 +18,10 @@ use Rattle.sc_vocabulary.specs.declared.words.Words.{Words}
 use Rattle.sc_vocabulary.specs.Words.{ArePairs, IsWords, pair_at, vocabulary_at}
 use Rattle.sc_clauses.specs.Facts.{clause_at, clauses_at}
 use Rattle.sc_clauses.specs.declared.facts.FactLiteral.{FactLiteral}
+use Rattle.sc_models.specs.declared.found.Found.{Found}
+use Rattle.sc_demand.specs.Broken.{IsBroken}
 use Rattle.sc_demand.specs.Congruent.{AreCongruences}
-use Rattle.sc_demand.specs.Few.{IsPart}
+use Rattle.sc_demand.specs.Few.{AreBrokenOnes, IsPart}
 
 module _ (terms : List TermNode) where
   pub one_in : (ids : List ℕ) → AreOnes terms ids → (id : ℕ) → Contains ids id → IsOne terms id
@@ -81,24 +83,42 @@ module _ (g : Signature) where
       (append_more (for_pairs g (value_clauses g) v.others) _ (for_pairs g (value_clauses g) u.others) _ (pairs_more (value_clauses g) v.others u.others others)
       (pairs_more (relation_clauses g) v.pairs u.pairs pairs)))
 
-  -- and can be put at the end of others
-  pub congruences_more : (nodes : List Node) (terms : List TermNode) (whole part : Words) (old more new : List (List FactLiteral)) → IsPart whole part → new ≡ old ++ more
-      → clauses_at nodes terms more ≡ congruence_clauses g (vocabulary_at terms part) → AreCongruences g nodes terms whole old → AreCongruences g nodes terms whole new
-  congruences_more nodes terms whole part old more new is e own h c there =
-      let P : List Clause → Type 0 = λ cs. Contains cs c in
-      let split : clauses_at nodes terms new ≡ clauses_at nodes terms old ++ clauses_at nodes terms more = ap (clauses_at nodes terms) e ∙ map-append (clause_at nodes terms) old more in
-      elim (Contains-append_cases (clauses_at nodes terms old) (clauses_at nodes terms more) c (subst P split there)) [
-        | inl before ↦ h c before
-        | inr later ↦ congruences_part terms whole part is c (subst P own later)
-      ]
+  -- and so is each of them
+  pub one_congruence : {V : Type 0} (items : V → List FactLiteral) (nodes : List Node) (terms : List TermNode) (whole part : Words) (more : List V) (v : V) (clause : List FactLiteral)
+      → Contains more v → items v ≡ clause → IsPart whole part → clauses_at nodes terms (map items more) ≡ congruence_clauses g (vocabulary_at terms part) → AreCongruences g nodes terms whole (clause ∷ [])
+  one_congruence items nodes terms whole part more v clause listed same is own c there =
+      let P : Clause → Type 0 = λ c. Contains (congruence_clauses g (vocabulary_at terms whole)) c in
+      let Q : List FactLiteral → Type 0 = λ clause. Contains (clauses_at nodes terms (map items more)) (clause_at nodes terms clause) in
+      let here : Contains (clauses_at nodes terms (map items more)) (clause_at nodes terms clause) =
+      subst Q same (to_map (clause_at nodes terms) (map items more) (items v) (to_map items more v listed)) in
+      let inside : P (clause_at nodes terms clause) = congruences_part terms whole part is (clause_at nodes terms clause) (subst (λ cs. Contains cs (clause_at nodes terms clause)) own here) in
+      elim (Contains-cons_cases (clause_at nodes terms clause) [] c there) [ inl e ↦ subst P e inside | inr never ↦ Contains-none c never ]
 
-  pub congruences_after : {V : Type 0} (items : V → List FactLiteral) (nodes : List Node) (terms : List TermNode) (whole part : Words) (old more new : List V) → IsPart whole part → new ≡ old ++ more
-      → clauses_at nodes terms (map items more) ≡ congruence_clauses g (vocabulary_at terms part) → AreCongruences g nodes terms whole (map items old) → AreCongruences g nodes terms whole (map items new)
-  congruences_after items nodes terms whole part old more new is e own h =
-      congruences_more nodes terms whole part (map items old) (map items more) (map items new) is (ap (map items) e ∙ map-append items old more) own h
+  -- and can be put at the end of others, where what was found breaks it
+  pub broken_after : {V : Type 0} (items : V → List FactLiteral) (nodes : List Node) (terms : List TermNode) (whole : Words) (found : Found) (old new : List V) (v : V) (clause : List FactLiteral)
+      → new ≡ old ++ v ∷ [] → items v ≡ clause → AreCongruences g nodes terms whole (clause ∷ []) → IsBroken terms found whole.pairs.items clause
+      → AreBrokenOnes g nodes terms whole found (map items old) → AreBrokenOnes g nodes terms whole found (map items new)
+  broken_after items nodes terms whole found old new v clause e same one broken h =
+      let before = map items old in
+      let split : map items new ≡ before ++ clause ∷ [] = ap (map items) e ∙ (map-append items old (v ∷ []) ∙ ap (λ c. before ++ c ∷ []) same) in
+      let parts : clauses_at nodes terms (map items new) ≡ clauses_at nodes terms before ++ clauses_at nodes terms (clause ∷ []) =
+      ap (clauses_at nodes terms) split ∙ map-append (clause_at nodes terms) before (clause ∷ []) in
+      record {
+        congruences = λ c there.
+            elim (Contains-append_cases (clauses_at nodes terms before) (clauses_at nodes terms (clause ∷ [])) c (subst (λ cs. Contains cs c) parts there)) [
+              | inl earlier ↦ h.congruences c earlier
+              | inr last ↦ one c last
+            ];
+        broken = subst (λ (cs : List (List FactLiteral)). All (IsBroken terms found whole.pairs.items) cs) (sym split)
+            (All-push (IsBroken terms found whole.pairs.items) before clause h.broken broken);
+      }
 
-  pub no_congruences : {V : Type 0} (items : V → List FactLiteral) (nodes : List Node) (terms : List TermNode) (whole : Words) (cs : List V) → cs ≡ [] → AreCongruences g nodes terms whole (map items cs)
-  no_congruences items nodes terms whole cs e c there = Contains-none c (subst (λ cs. Contains (clauses_at nodes terms (map items cs)) c) e there)
+  pub none_broken : {V : Type 0} (items : V → List FactLiteral) (nodes : List Node) (terms : List TermNode) (whole : Words) (found : Found) (cs : List V) → cs ≡ []
+      → AreBrokenOnes g nodes terms whole found (map items cs)
+  none_broken items nodes terms whole found cs e = record {
+    congruences = λ c there. Contains-none c (subst (λ cs. Contains (clauses_at nodes terms (map items cs)) c) e there);
+    broken = subst (λ cs. All (IsBroken terms found whole.pairs.items) (map items cs)) (sym e) (All-nil (IsBroken terms found whole.pairs.items));
+  }
 
 one_more : {A : Type 0} (whole old : List A) (x : A) → Contains whole x → ((y : A) → Contains old y → Contains whole y) → (y : A) → Contains (old ++ x ∷ []) y → Contains whole y
 one_more {A} whole old x here before y c =

@@ -1,3 +1,4 @@
+pub mod Broken
 pub mod Congruent
 pub mod Few
 pub mod Keys

@@ -1,11 +1,13 @@
 //! The clauses of congruence that what was found breaks.
 
-ghost use Rattle.std.specs.Prelude.{◌≡◌, ◌≢◌, ◌++◌, [], None, IfOk, IfSome, map, true};
+ghost use Rattle.std.specs.Prelude.{◌≡◌, ◌≢◌, ◌++◌, [], All, None, IfOk, IfSome, map, true};
 ghost use Rattle.sc_formula.specs.declared.structure.Signature.{Signature as AnySignature};
 ghost use Rattle.sc_tables.specs.Table.{Table};
 ghost use Rattle.sc_models.specs.Found.{IsFound};
 ghost use Rattle.sc_vocabulary.specs.Words.{IsWords, vocabulary_at};
+ghost use Rattle.sc_demand.specs.Broken.{IsBroken};
 ghost use Rattle.sc_demand.specs.Congruent.{AreCongruences, IsCongruent};
+ghost use Rattle.sc_demand.specs.Few.{AreBrokenOnes};
 
 use crate::few::{Speech, push_each_pairs, push_each_terms};
 use crate::keys::Source;
@@ -35,7 +37,7 @@ fn are_none(terms: &[Rivals], pairs: &[Rivals]) -> bool
     terms.is_empty() && pairs.is_empty()
 }
 
-/// The clauses of some terms and pairs.
+/// The broken clauses of some terms and pairs.
 fn clauses_on(
     alloc: Global,
     speech: Speech<'_>,
@@ -43,9 +45,9 @@ fn clauses_on(
     pairs: &[Rivals],
 ) -> Result<Vec<Vec<FactLiteral>>, AllocError>
     requires { IsWords speech.terms.now speech.words.now }
-    ensures { IfOk result (λ clauses. AreCongruences speech.entry.signature.now
+    ensures { IfOk result (λ clauses. AreBrokenOnes speech.entry.signature.now
         speech.entry.arena.now speech.entry.terms.now speech.entry.words.now
-        (map (λ c. c.items) clauses.items)) }
+        speech.entry.found.now (map (λ c. c.items) clauses.items)) }
 {
     let mut clauses = Vec::new(alloc);
     push_each_terms(alloc, speech, terms, &mut clauses)?;
@@ -53,7 +55,7 @@ fn clauses_on(
     Ok(clauses)
 }
 
-/// The clauses, if there are any. That there are none, though terms or pairs are rivals, counts as
+/// The clauses, if there are any. That none is broken, though terms or pairs are rivals, counts as
 /// memory that is not there.
 fn some_of(clauses: Vec<Vec<FactLiteral>>) -> Result<Vec<Vec<FactLiteral>>, AllocError>
     ensures same { IfOk result (λ own. own ≡ clauses) }
@@ -65,9 +67,9 @@ fn some_of(clauses: Vec<Vec<FactLiteral>>) -> Result<Vec<Vec<FactLiteral>>, Allo
     Ok(clauses)
 }
 
-/// Some clauses of congruence, of the terms and the pairs of which what was found is not a function
-/// of their keys; None only where it is congruent. Time and memory go with the terms and the pairs,
-/// not with their square.
+/// Some clauses of congruence that what was found breaks, of the terms and the pairs of which it is
+/// not a function of their keys; None only where it is congruent. Time and memory go with the terms
+/// and the pairs, not with their square.
 pub fn broken_congruences(
     alloc: Global,
     arena: &Arena,
@@ -82,6 +84,8 @@ pub fn broken_congruences(
         IsCongruent (vocabulary_at terms.now words.now) table) }
     ensures some { IfOk result (λ broken. IfSome broken (λ clauses. AreCongruences signature.now
         arena.now terms.now words.now (map (λ c. c.items) clauses.items))) }
+    ensures broken { IfOk result (λ broken. IfSome broken (λ clauses. All (IsBroken terms.now
+        found.now words.now.pairs.items) (map (λ c. c.items) clauses.items))) }
     ensures full { IfOk result (λ broken. IfSome broken (λ clauses. clauses.items ≢ [])) }
 {
     let source = Source { terms, found };
@@ -96,6 +100,7 @@ pub fn broken_congruences(
         signature,
         terms,
         words,
+        found,
     };
     let clauses = clauses_on(alloc, speech, rivals.as_slice(), pair_rivals.as_slice())?;
     let clauses = some_of(clauses)?;

@@ -1,24 +1,28 @@
-//! The clauses of congruence of few words.
+//! The clauses of congruence of few words that what was found breaks.
 
-ghost use Rattle.std.specs.Prelude.{OnOk, map};
+ghost use Rattle.std.specs.Prelude.{◌∷◌, [], OnOk, map};
 ghost use Rattle.sc_vocabulary.specs.Words.{IsWords};
 ghost use Rattle.sc_demand.specs.Congruent.{AreCongruences};
-ghost use Rattle.sc_demand.specs.Few.{IsPart};
+ghost use Rattle.sc_demand.specs.Few.{AreBrokenOnes, IsPart};
 
+use crate::keys::Source;
 use crate::terms::Rivals;
+use crate::told::is_broken;
 use sc_clauses::{FactLiteral, congruence_clauses};
 use sc_formula::{Arena, Signature};
+use sc_models::Found;
 use sc_term_arena::TermArena;
 use sc_vocabulary::Words;
 use std::alloc::{AllocError, Global};
 
-/// What clauses are made of.
+/// What clauses are made of, and what was found.
 #[derive(Clone, Copy)]
 pub(crate) struct Speech<'a> {
     pub(crate) arena: &'a Arena,
     pub(crate) signature: &'a Signature,
     pub(crate) terms: &'a TermArena,
     pub(crate) words: &'a Words,
+    pub(crate) found: &'a Found,
 }
 
 /// Adds the term at a place, where those that name elements come first.
@@ -65,32 +69,69 @@ fn no_words(alloc: Global) -> Words
     }
 }
 
-/// Puts the clauses of few words at the end.
+/// Puts a clause at the end, if what was found breaks it.
+fn push_broken(
+    alloc: Global,
+    speech: Speech<'_>,
+    rivals: Rivals,
+    clause: &[FactLiteral],
+    clauses: &mut Vec<Vec<FactLiteral>>,
+) -> Result<(), AllocError>
+    requires { AreCongruences speech.signature.now speech.arena.now speech.terms.now
+        speech.words.now (clause.now ∷ []) }
+    ensures { OnOk result (AreBrokenOnes speech.entry.signature.now speech.entry.arena.now
+        speech.entry.terms.now speech.entry.words.now speech.entry.found.now (map (λ c. c.items)
+        clauses.old.items) → AreBrokenOnes speech.entry.signature.now speech.entry.arena.now
+        speech.entry.terms.now speech.entry.words.now speech.entry.found.now (map (λ c. c.items)
+        clauses.new.items)) }
+{
+    let Speech {
+        arena: _,
+        signature: _,
+        terms,
+        words,
+        found,
+    } = speech;
+    let source = Source { terms, found };
+    if !is_broken(source, words.pairs.as_slice(), rivals, clause) {
+        return Ok(());
+    }
+    let own = Vec::from_slice(alloc, clause)?;
+    clauses.push(own)?;
+    Ok(())
+}
+
+/// Puts the clauses of few words that what was found breaks at the end, where these are two rivals.
 fn push_few(
     alloc: Global,
     speech: Speech<'_>,
+    rivals: Rivals,
     few: &Words,
     clauses: &mut Vec<Vec<FactLiteral>>,
 ) -> Result<(), AllocError>
     requires words { IsWords speech.terms.now speech.words.now }
     requires part { IsPart speech.words.now few.now }
-    ensures { OnOk result (AreCongruences speech.entry.signature.now speech.entry.arena.now
-        speech.entry.terms.now speech.entry.words.now (map (λ c. c.items) clauses.old.items) →
-        AreCongruences speech.entry.signature.now speech.entry.arena.now speech.entry.terms.now
-        speech.entry.words.now (map (λ c. c.items) clauses.new.items)) }
+    ensures { OnOk result (AreBrokenOnes speech.entry.signature.now speech.entry.arena.now
+        speech.entry.terms.now speech.entry.words.now speech.entry.found.now (map (λ c. c.items)
+        clauses.old.items) → AreBrokenOnes speech.entry.signature.now speech.entry.arena.now
+        speech.entry.terms.now speech.entry.words.now speech.entry.found.now (map (λ c. c.items)
+        clauses.new.items)) }
 {
     let Speech {
         arena,
         signature,
         terms,
         words: _,
+        found: _,
     } = speech;
-    let mut more = congruence_clauses(alloc, arena, signature, terms, few)?;
-    clauses.append(&mut more)?;
+    let more = congruence_clauses(alloc, arena, signature, terms, few)?;
+    for clause in more.as_slice() {
+        push_broken(alloc, speech, rivals, clause.as_slice(), clauses)?;
+    }
     Ok(())
 }
 
-/// Puts the clauses of two terms at the end.
+/// Puts the broken clauses of two terms at the end.
 fn push_terms(
     alloc: Global,
     speech: Speech<'_>,
@@ -98,18 +139,19 @@ fn push_terms(
     clauses: &mut Vec<Vec<FactLiteral>>,
 ) -> Result<(), AllocError>
     requires { IsWords speech.terms.now speech.words.now }
-    ensures { OnOk result (AreCongruences speech.entry.signature.now speech.entry.arena.now
-        speech.entry.terms.now speech.entry.words.now (map (λ c. c.items) clauses.old.items) →
-        AreCongruences speech.entry.signature.now speech.entry.arena.now speech.entry.terms.now
-        speech.entry.words.now (map (λ c. c.items) clauses.new.items)) }
+    ensures { OnOk result (AreBrokenOnes speech.entry.signature.now speech.entry.arena.now
+        speech.entry.terms.now speech.entry.words.now speech.entry.found.now (map (λ c. c.items)
+        clauses.old.items) → AreBrokenOnes speech.entry.signature.now speech.entry.arena.now
+        speech.entry.terms.now speech.entry.words.now speech.entry.found.now (map (λ c. c.items)
+        clauses.new.items)) }
 {
     let mut few = no_words(alloc);
     add_term(speech.words, rivals.first, &mut few)?;
     add_term(speech.words, rivals.one, &mut few)?;
-    push_few(alloc, speech, &few, clauses)
+    push_few(alloc, speech, rivals, &few, clauses)
 }
 
-/// Puts the clauses of two pairs at the end.
+/// Puts the broken clauses of two pairs at the end.
 fn push_pairs(
     alloc: Global,
     speech: Speech<'_>,
@@ -117,18 +159,19 @@ fn push_pairs(
     clauses: &mut Vec<Vec<FactLiteral>>,
 ) -> Result<(), AllocError>
     requires { IsWords speech.terms.now speech.words.now }
-    ensures { OnOk result (AreCongruences speech.entry.signature.now speech.entry.arena.now
-        speech.entry.terms.now speech.entry.words.now (map (λ c. c.items) clauses.old.items) →
-        AreCongruences speech.entry.signature.now speech.entry.arena.now speech.entry.terms.now
-        speech.entry.words.now (map (λ c. c.items) clauses.new.items)) }
+    ensures { OnOk result (AreBrokenOnes speech.entry.signature.now speech.entry.arena.now
+        speech.entry.terms.now speech.entry.words.now speech.entry.found.now (map (λ c. c.items)
+        clauses.old.items) → AreBrokenOnes speech.entry.signature.now speech.entry.arena.now
+        speech.entry.terms.now speech.entry.words.now speech.entry.found.now (map (λ c. c.items)
+        clauses.new.items)) }
 {
     let mut few = no_words(alloc);
     add_pair(speech.words, rivals.first, &mut few)?;
     add_pair(speech.words, rivals.one, &mut few)?;
-    push_few(alloc, speech, &few, clauses)
+    push_few(alloc, speech, rivals, &few, clauses)
 }
 
-/// Puts the clauses of each two terms at the end.
+/// Puts the broken clauses of each two terms at the end.
 pub(crate) fn push_each_terms(
     alloc: Global,
     speech: Speech<'_>,
@@ -136,10 +179,11 @@ pub(crate) fn push_each_terms(
     clauses: &mut Vec<Vec<FactLiteral>>,
 ) -> Result<(), AllocError>
     requires { IsWords speech.terms.now speech.words.now }
-    ensures { OnOk result (AreCongruences speech.entry.signature.now speech.entry.arena.now
-        speech.entry.terms.now speech.entry.words.now (map (λ c. c.items) clauses.old.items) →
-        AreCongruences speech.entry.signature.now speech.entry.arena.now speech.entry.terms.now
-        speech.entry.words.now (map (λ c. c.items) clauses.new.items)) }
+    ensures { OnOk result (AreBrokenOnes speech.entry.signature.now speech.entry.arena.now
+        speech.entry.terms.now speech.entry.words.now speech.entry.found.now (map (λ c. c.items)
+        clauses.old.items) → AreBrokenOnes speech.entry.signature.now speech.entry.arena.now
+        speech.entry.terms.now speech.entry.words.now speech.entry.found.now (map (λ c. c.items)
+        clauses.new.items)) }
 {
     for two in rivals {
         push_terms(alloc, speech, *two, clauses)?;
@@ -147,7 +191,7 @@ pub(crate) fn push_each_terms(
     Ok(())
 }
 
-/// Puts the clauses of each two pairs at the end.
+/// Puts the broken clauses of each two pairs at the end.
 pub(crate) fn push_each_pairs(
     alloc: Global,
     speech: Speech<'_>,
@@ -155,10 +199,11 @@ pub(crate) fn push_each_pairs(
     clauses: &mut Vec<Vec<FactLiteral>>,
 ) -> Result<(), AllocError>
     requires { IsWords speech.terms.now speech.words.now }
-    ensures { OnOk result (AreCongruences speech.entry.signature.now speech.entry.arena.now
-        speech.entry.terms.now speech.entry.words.now (map (λ c. c.items) clauses.old.items) →
-        AreCongruences speech.entry.signature.now speech.entry.arena.now speech.entry.terms.now
-        speech.entry.words.now (map (λ c. c.items) clauses.new.items)) }
+    ensures { OnOk result (AreBrokenOnes speech.entry.signature.now speech.entry.arena.now
+        speech.entry.terms.now speech.entry.words.now speech.entry.found.now (map (λ c. c.items)
+        clauses.old.items) → AreBrokenOnes speech.entry.signature.now speech.entry.arena.now
+        speech.entry.terms.now speech.entry.words.now speech.entry.found.now (map (λ c. c.items)
+        clauses.new.items)) }
 {
     for two in rivals {
         push_pairs(alloc, speech, *two, clauses)?;

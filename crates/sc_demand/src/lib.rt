@@ -5,7 +5,8 @@
 //! - `firsts`: the first place of each key.
 //! - `terms`: the terms that break a clause.
 //! - `pairs`: the pairs that do.
-//! - `few`: the clauses of few words.
+//! - `told`: whether what was found breaks a clause.
+//! - `few`: the clauses of few words that it breaks.
 //! - `broken`: [`broken_congruences`].
 #![tactic(auto)]
 
@@ -16,5 +17,6 @@ mod firsts;
 mod keys;
 mod pairs;
 mod terms;
+mod told;
 
 pub use broken::broken_congruences;

@@ -17,7 +17,7 @@ use sc_vocabulary::PairNode;
 use std::alloc::{AllocError, Global};
 
 /// Whether the set relation of the pair at a place holds.
-fn is_related(found: &Found, place: usize) -> bool
+pub(crate) fn is_related(found: &Found, place: usize) -> bool
     ensures { result ≡ related_at found.now place }
 {
     match found.related.get(place) {
