@@ -1,5 +1,5 @@
 -- What the search finds, as a table.
-use Rattle.std.proofs.Common.{inl, inr, ◌≡◌, ℕ, zero, suc, ◌+◌, Bool, false, refl, sym, ◌∙◌, List, [], ◌∷◌, ◌++◌, Some, length, map, ap, subst, Contains, slice_get}
+use Rattle.std.proofs.Common.{Vec, Global, All, IfSome, Option, ◌≢◌, inl, inr, ◌≡◌, ℕ, zero, suc, ◌+◌, Bool, true, false, refl, sym, ◌∙◌, List, [], ◌∷◌, ◌++◌, Some, length, map, ap, subst, Contains, slice_get}
 use Rattle.std.specs.Prelude.{unwrap_or}
 use Rattle.std.proofs.lemmas.List.Elements.{Contains-append_cases, Contains-append_left, Contains-append_right}
 use Rattle.std.proofs.lemmas.Option.{slice_get-get_or}
@@ -11,6 +11,7 @@ use Rattle.sc_formula.specs.Trees.{Formula}
 use Rattle.sc_formula.specs.declared.node.Node.{Node}
 use Rattle.sc_formula.specs.declared.structure.Signature.{Signature}
 use Rattle.sc_gates.specs.Gates.{ArePlaced as AreGatesPlaced}
+use Rattle.sc_gates.specs.Clauses.{meets_clause}
 use Rattle.sc_gates.specs.declared.gate.Literal.{Literal}
 use Rattle.sc_terms.specs.GroundTerms.{GroundTerm}
 use Rattle.sc_terms.specs.Passing.{IsSatisfiableOver}
@@ -19,13 +20,16 @@ use Rattle.sc_tables.specs.Clauses.{base_clauses, congruence_clauses}
 use Rattle.sc_tables.specs.Facts.{Assignment, Clause, Fact, is_fact, is_met, table_for}
 use Rattle.sc_tables.proofs.Assignments.{consistent_from}
 use Rattle.sc_tables.proofs.ClausesMet.{each_met, met_append, met_each}
-use Rattle.sc_terms.proofs.Kept.{list_all-from}
+use Rattle.sc_terms.proofs.Kept.{All-Contains, list_all-from}
+use Rattle.sc_terms.proofs.Listed.{in_map}
 use Rattle.sc_terms.proofs.Lists.{list_all-Contains}
+use Rattle.sc_demand.proofs.BrokenLaws.{broken_unmet}
 use Rattle.sc_demand.proofs.CongruentMet.{congruence_met}
 use Rattle.sc_grounding.specs.GroundClauses.{AreGroundClauses, HaveFacts}
 use Rattle.sc_grounding.proofs.Grounded.{grounded, met_tables, met_read}
+use Rattle.sc_grounding.proofs.Tied.{clause_value}
 use Rattle.sc_vocabulary.specs.Spoken.{IsSpoken}
-use Rattle.sc_vocabulary.specs.Words.{vocabulary_at}
+use Rattle.sc_vocabulary.specs.Words.{IsWords, vocabulary_at}
 use Rattle.sc_vocabulary.specs.declared.spoken.Spoken.{Spoken}
 use Rattle.sc_vocabulary.specs.declared.words.PairNode.{PairNode}
 use Rattle.sc_vocabulary.specs.declared.words.Words.{Words}
@@ -39,9 +43,10 @@ use Rattle.sc_columns.specs.Columns.{AreFound, AreTyped, IsTypedAt, IsSo, assign
 use Rattle.sc_columns.specs.declared.columns.Columns.{Columns}
 use Rattle.sc_term_arena.specs.declared.node.TermNode.{TermNode}
 use Rattle.sc_columns.proofs.Told.{so_same, typed_same, found_same}
+use Rattle.sc_demand.specs.Broken.{IsBroken}
 use Rattle.sc_demand.specs.Congruent.{AreCongruences}
 use Rattle.sc_search.specs.Problem.{AreSolved, IsNowhere}
-use Rattle.sc_search.specs.Tabled.{AreListed, HaveBase, HasColumns, HasTable, IsFoundCongruent, IsGroundFor, IsTabled}
+use Rattle.sc_search.specs.Tabled.{AreBrokenBy, AreListed, AreNewCongruences, HaveBase, HasColumns, HasTable, IsFoundCongruent, IsGroundFor, IsTabled}
 use Rattle.sc_search.specs.declared.tabled.Tabled.{Tabled}
 use Rattle.sc_search.proofs.Encoded.{map-append}
 use Rattle.sc_search.specs.Texts.{AreTexts}
@@ -68,6 +73,54 @@ typed_both g terms c (x ∷ xs) ys h k = by (typed_both g terms c xs ys (λ j id
     by rest zero id e = h 0 id e
     by rest (suc i) id e = rest i id e
 
+module _ (g : Signature) (nodes : List Node) (s : Spoken) (ground : GroundClauses) (gr : IsGroundFor g nodes s ground) (first : ℕ) (begins : first ≡ length s.made.inputs) (m : Mixture)
+    (found : Found) (formed : AreNodesPlaced nodes) (placed : ArePlaced s.made.terms) (once : AreOnce s.made.terms) (words : IsWords s.made.terms s.words) where
+  -- the variables of facts have the values of the assignment of columns
+  pub facts_have : (has : HasColumns g nodes s.made.terms s.words ground.facts.items first m.values.items found)
+      → HaveFacts s.made (map (fact_at nodes s.made.terms) ground.facts.items) (assignment_by s.made.terms s.words.pairs.items has.columns) (λ x. unwrap_or (slice_get m.values.items x) false)
+  facts_have has k q e =
+      let terms = s.made.terms in
+      let values : ℕ → Bool = λ x. unwrap_or (slice_get m.values.items x) false in
+      let (p, there, same) = unmapped (fact_at nodes terms) ground.facts.items k q e in
+      ap (λ n. values (n + k)) (sym begins)
+      ∙ (so_same terms placed once nodes formed s.words.pairs.items words.pairs has.columns p (values (first + k)) (has.so k p there)
+      ∙ ap (is_fact (assignment_by terms s.words.pairs.items has.columns)) same)
+
+-- where values meet the clauses, those of congruence that what was found breaks were not listed
+module _ (g : Signature) (nodes : List Node) (s : Spoken) (ground : GroundClauses) (gr : IsGroundFor g nodes s ground) (first : ℕ) (begins : first ≡ length s.made.inputs) (m : Mixture)
+    (formed : AreNodesPlaced nodes) (placed : ArePlaced s.made.terms) (once : AreOnce s.made.terms) (words : IsWords s.made.terms s.words) where
+  broken_new : (more : List (List FactLiteral)) → AreSolved (map (λ c. c.items) ground.clauses.items ++ map (λ c. c.items) ground.gates.items) m
+      → AreBrokenBy g nodes s.made.terms s.words ground.facts.items first m.values.items more → AreNewCongruences g nodes s.made.terms s.words gr.cs more
+  broken_new more solved h = record {
+    congruences = h.congruences;
+    new = λ c there listed.
+        let terms = s.made.terms in
+        let pairs = s.words.pairs.items in
+        let has = h.has in
+        let a : Assignment = assignment_by terms pairs has.columns in
+        let facts = map (fact_at nodes terms) ground.facts.items in
+        let all = map (λ c. c.items) ground.clauses.items ++ map (λ c. c.items) ground.gates.items in
+        let values : ℕ → Bool = λ x. unwrap_or (slice_get m.values.items x) false in
+        let have = facts_have g nodes s ground gr first begins m h.found formed placed once words has in
+        let (clause, own, inside) = gr.clauses.tables c listed in
+        let met : is_met a c ≡ true = sym (clause_value s.made facts a values have clause c own) ∙ list_all-Contains (meets_clause values) all clause solved.meet inside in
+        let is_found = found_same terms placed once nodes formed pairs words.pairs has.columns g h.found has.is_found in
+        let (x, here, same) = in_map (clause_at nodes terms) more c there in
+        let unmet = broken_unmet g nodes terms pairs h.found a is_found
+        (λ sort so e. ap (λ xs. unwrap_or (slice_get xs sort) false) (sym has.is_found.empty) ∙ ap (λ o. unwrap_or o false) e) x
+        (All-Contains (IsBroken terms h.found pairs) more x h.broken here) in
+        let unmet_too : is_met a c ≡ false = sym (ap (is_met a) same) ∙ unmet in cc;
+    some = h.some;
+  }
+
+  -- and so where the lists are these
+  pub broken_as : (fs : List FactNode) (cs : List (List Literal)) (more : List (List FactLiteral)) → fs ≡ ground.facts.items
+      → cs ≡ map (λ c. c.items) ground.clauses.items ++ map (λ c. c.items) ground.gates.items → AreSolved cs m
+      → AreBrokenBy g nodes s.made.terms s.words fs first m.values.items more → AreNewCongruences g nodes s.made.terms s.words gr.cs more
+  broken_as fs cs more e k solved h =
+      broken_new more (subst (λ (cs : List (List Literal)). AreSolved cs m) k solved)
+      (subst (λ (fs : List FactNode). AreBrokenBy g nodes s.made.terms s.words fs first m.values.items more) e h)
+
 module _ (g : Signature) (nodes : List Node) (f : Formula) (ts : List GroundTerm) (closed : Bool) (s : Spoken) (ground : GroundClauses) (over : IsOver g [] f) (normal : IsNormal f)
     (is : IsSpoken g nodes f ts closed s) (gr : IsGroundFor g nodes s ground) (gates : AreGatesPlaced s.made.gates) (first : ℕ) (begins : first ≡ length s.made.inputs) where
   abbrev all : List (List Literal)
@@ -93,10 +146,7 @@ module _ (g : Signature) (nodes : List Node) (f : Formula) (ts : List GroundTerm
       let v = vocabulary_at terms s.words in
       let a : Assignment = assignment_by terms pairs has.columns in
       let values : ℕ → Bool = λ x. unwrap_or (slice_get m.values.items x) false in
-      let have : HaveFacts s.made facts a values =
-      λ k q e.
-      let (p, there, same) = unmapped (fact_at nodes terms) ground.facts.items k q e in
-      ap (λ n. values (n + k)) (sym begins) ∙ (so_same terms placed once nodes formed pairs is.words.pairs has.columns p (values (first + k)) (has.so k p there) ∙ ap (is_fact a) same) in
+      let have = facts_have g nodes s ground gr first begins m found formed placed once is.words has in
       let met = met_tables g f ts gr.cs nodes s.made facts all over is.instances gates gr.clauses a values have solved.meet in
       let read = met_read g f ts gr.cs nodes s.made facts all over is.instances gates gr.clauses a values have solved.meet in
       let typed = typed_same terms placed once nodes formed pairs is.words.pairs has.columns g s.words (typed_both g terms has.columns s.words.named.items s.words.others.items has.named_typed has.others_typed) in
@@ -128,6 +178,27 @@ module _ (g : Signature) (nodes : List Node) (f : Formula) (ts : List GroundTerm
 -- two lists together
 pub at_items : {V X : Type 0} (items : V → List X) (cs ds gs hs : List V) → cs ≡ ds → gs ≡ hs → map items cs ++ map items gs ≡ map items ds ++ map items hs
 at_items items cs ds gs hs e k = ap (λ xs. map items xs ++ map items gs) e ∙ ap (λ ys. map items ds ++ map items ys) k
+
+-- clauses that are broken by what was found by columns
+pub broken_by : (g : Signature) (nodes : List Node) (terms : List TermNode) (w : Words) (facts : List FactNode) (first : ℕ) (values : List Bool) (found : Found)
+    (o : Option (Vec (Vec FactLiteral Global) Global)) (clauses : Vec (Vec FactLiteral Global) Global) → o ≡ Some clauses → HasColumns g nodes terms w facts first values found
+    → IfSome o (λ cs. AreCongruences g nodes terms w (map (λ c. c.items) cs.items)) → IfSome o (λ cs. All (IsBroken terms found w.pairs.items) (map (λ c. c.items) cs.items))
+    → IfSome o (λ cs. cs.items ≢ []) → AreBrokenBy g nodes terms w facts first values (map (λ c. c.items) clauses.items)
+broken_by g nodes terms w facts first values found o clauses e has congruences broken some =
+    let P : Option (Vec (Vec FactLiteral Global) Global) → Type 0 = λ o. IfSome o (λ cs. AreCongruences g nodes terms w (map (λ c. c.items) cs.items)) in
+    let Q : Option (Vec (Vec FactLiteral Global) Global) → Type 0 = λ o. IfSome o (λ cs. All (IsBroken terms found w.pairs.items) (map (λ c. c.items) cs.items)) in
+    let R : Option (Vec (Vec FactLiteral Global) Global) → Type 0 = λ o. IfSome o (λ cs. cs.items ≢ []) in
+    record {
+      found = found;
+      has = has;
+      congruences = subst P e congruences;
+      broken = subst Q e broken;
+      some = λ none. subst R e some (none_from clauses.items none);
+    }
+  where
+    none_from : (cs : List (Vec FactLiteral Global)) → map (λ c. c.items) cs ≡ [] → cs ≡ []
+    none_from [] e = refl
+    none_from (c ∷ cs) e = cc
 
 -- the columns of what was found, where the lists are these
 pub columns_as : (g : Signature) (nodes : List Node) (terms : List TermNode) (w : Words) (facts : List FactNode) (first : ℕ) (values : List Bool) (found : Found) (c : Columns)

@@ -4,5 +4,6 @@ pub mod Glue
 pub mod Halved
 pub mod Loops
 pub mod ModelColumns
+pub mod Rounds
 pub mod Solved
 pub mod TextLists

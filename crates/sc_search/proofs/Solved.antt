@@ -118,9 +118,9 @@ pub items_as : {V X : Type 0} (items : V → List X) (vs us : List V) → vs ≡
 items_as items vs us e = ap (map items) e
 
 -- what holds of a round
-pub round_too : (r : Round) (P P' : Found → Type 0) (Q : List (List FactLiteral) → Type 0) → ((x : Found) → P x → P' x) → IsRound P Q r → IsRound P' Q r
-round_too (round.Table found) P P' Q h k = h found k
-round_too (round.Broken clauses) P P' Q h k = k
+pub round_too : (r : Round) (P P' : Found → Type 0) (Q Q' : List (List FactLiteral) → Type 0) → ((x : Found) → P x → P' x) → ((cs : List (List FactLiteral)) → Q cs → Q' cs) → IsRound P Q r → IsRound P' Q' r
+round_too (round.Table found) P P' Q Q' h k is = h found is
+round_too (round.Broken clauses) P P' Q Q' h k is = k (map (λ c. c.items) clauses.items) is
 
 pub broken_round : (o : Option Round) (P : Found → Type 0) (Q : List (List FactLiteral) → Type 0) (r : Round) (clauses : Vec (Vec FactLiteral Global) Global) → o ≡ Some r → r ≡ round.Broken clauses
     → IfSome o (IsRound P Q) → Q (map (λ c. c.items) clauses.items)

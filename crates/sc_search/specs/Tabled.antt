@@ -1,5 +1,5 @@
 -- A table by which a formula is read over ground terms, with what a structure is made of.
-use Rattle.std.specs.Prelude.{◌≡◌, ℕ, ◌+◌, Bool, true, false, List, [], ◌++◌, Some, Contains, map, slice_get, unwrap_or}
+use Rattle.std.specs.Prelude.{◌≡◌, ◌≢◌, ℕ, ◌+◌, All, Bool, true, false, List, [], ◌++◌, Some, Contains, map, slice_get, unwrap_or}
 use Rattle.sc_formula.specs.declared.structure.Signature.{Signature}
 use Rattle.sc_formula.specs.Trees.{Formula}
 use Rattle.sc_terms.specs.GroundTerms.{GroundTerm, no_terms}
@@ -23,7 +23,8 @@ use Rattle.sc_clauses.specs.declared.ground.GroundClauses.{GroundClauses}
 use Rattle.sc_models.specs.declared.found.Found.{Found}
 use Rattle.sc_columns.specs.Columns.{AreFound, AreTyped, IsSo}
 use Rattle.sc_columns.specs.declared.columns.Columns.{Columns}
-use Rattle.sc_demand.specs.Congruent.{IsCongruent}
+use Rattle.sc_demand.specs.Broken.{IsBroken}
+use Rattle.sc_demand.specs.Congruent.{AreCongruences, IsCongruent}
 use Rattle.sc_search.specs.declared.round.Round.{Round}
 use Rattle.sc_search.specs.declared.round.Round.TheVariants as round
 use Rattle.sc_search.specs.declared.tabled.Tabled.{Tabled}
@@ -66,11 +67,6 @@ pub record IsGroundFor (g : Signature) (nodes : List Node) (s : Spoken) (ground 
 abbrev pub IsFoundCongruent : List TermNode → Words → Found → Type 0
 IsFoundCongruent terms w found = (g : Signature) (table : Table) → IsFound g terms w.pairs.items found table → IsCongruent (vocabulary_at terms w) table
 
--- the one holds of what was found, or the other of clauses
-abbrev pub IsRound : (Found → Type 0) → (List (List FactLiteral) → Type 0) → Round → Type 0
-IsRound P Q (round.Table found) = P found
-IsRound P Q (round.Broken clauses) = Q (map (λ c. c.items) clauses.items)
-
 -- there are columns by which the facts are as their values, that are typed, and that have what was found
 pub record HasColumns (g : Signature) (nodes : List Node) (terms : List TermNode) (w : Words) (facts : List FactNode) (first : ℕ) (values : List Bool) (found : Found) : Type 0 where
   pub columns : Columns
@@ -78,3 +74,22 @@ pub record HasColumns (g : Signature) (nodes : List Node) (terms : List TermNode
   pub named_typed : AreTyped g terms columns w.named.items
   pub others_typed : AreTyped g terms columns w.others.items
   pub is_found : AreFound terms w.pairs.items columns found
+
+-- clauses of congruence, one at least, each broken by what was found by columns by which the facts are as their values
+pub record AreBrokenBy (g : Signature) (nodes : List Node) (terms : List TermNode) (w : Words) (facts : List FactNode) (first : ℕ) (values : List Bool) (clauses : List (List FactLiteral)) : Type 0 where
+  pub found : Found
+  pub has : HasColumns g nodes terms w facts first values found
+  pub congruences : AreCongruences g nodes terms w clauses
+  pub broken : All (IsBroken terms found w.pairs.items) clauses
+  pub some : clauses ≢ []
+
+-- clauses of congruence, one at least, of which none was listed
+pub record AreNewCongruences (g : Signature) (nodes : List Node) (terms : List TermNode) (w : Words) (listed : List Clause) (clauses : List (List FactLiteral)) : Type 0 where
+  pub congruences : AreCongruences g nodes terms w clauses
+  pub new : (c : Clause) → Contains (clauses_at nodes terms clauses) c → Contains listed c → ⊥
+  pub some : clauses ≢ []
+
+-- the one holds of what was found, or the other of clauses
+abbrev pub IsRound : (Found → Type 0) → (List (List FactLiteral) → Type 0) → Round → Type 0
+IsRound P Q (round.Table found) = P found
+IsRound P Q (round.Broken clauses) = Q (map (λ c. c.items) clauses.items)

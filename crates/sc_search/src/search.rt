@@ -14,9 +14,10 @@ ghost use Rattle.sc_vocabulary.specs.Spoken.{IsSpoken};
 ghost use Rattle.sc_vocabulary.specs.Words.{IsWords, vocabulary_at};
 ghost use Rattle.sc_mixed.specs.declared.mixture.Mixture.{Mixture as AnyMixture};
 ghost use Rattle.sc_search.specs.Problem.{AreSolved, IsNowhere};
-ghost use Rattle.sc_search.specs.Tabled.{AreListed, HasColumns, HasTable, IsFoundCongruent};
-ghost use Rattle.sc_search.specs.Tabled.{IsGroundFor, IsRound, IsTabled};
-ghost use Rattle.sc_demand.specs.Congruent.{AreCongruences};
+ghost use Rattle.sc_search.specs.Tabled.{AreBrokenBy, AreListed, AreNewCongruences, HasColumns};
+ghost use Rattle.sc_search.specs.Tabled.{HasTable, IsFoundCongruent, IsGroundFor, IsRound};
+ghost use Rattle.sc_search.specs.Tabled.{IsTabled};
+ghost use Rattle.sc_clauses.specs.Facts.{clauses_at};
 ghost use Rattle.sc_search.specs.Texts.{StandOnce};
 
 use crate::joining::joined_classes;
@@ -94,9 +95,9 @@ fn found_from(
     ensures { IfOk result (IsRound (λ f. HasColumns reader.entry.signature.now
         reader.entry.arena.now reader.entry.terms.now reader.entry.words.now
         ground.entry.facts.now ground.entry.first mixture.now.values.items f × IsFoundCongruent
-        reader.entry.terms.now reader.entry.words.now f) (AreCongruences
-        reader.entry.signature.now reader.entry.arena.now reader.entry.terms.now
-        reader.entry.words.now)) }
+        reader.entry.terms.now reader.entry.words.now f) (AreBrokenBy reader.entry.signature.now
+        reader.entry.arena.now reader.entry.terms.now reader.entry.words.now
+        ground.entry.facts.now ground.entry.first mixture.now.values.items)) }
 {
     let pairs = Pairs::of(alloc, reader.words.pairs.as_slice())?;
     let found = found_so(alloc, reader, ground, mixture, &pairs)?;
@@ -130,8 +131,10 @@ fn found_by_clauses(
         ground.entry.gates.now) m × (HasColumns reader.entry.signature.now reader.entry.arena.now
         reader.entry.terms.now reader.entry.words.now ground.entry.facts.now ground.entry.first
         m.values.items f × IsFoundCongruent reader.entry.terms.now reader.entry.words.now f))
-        (AreCongruences reader.entry.signature.now reader.entry.arena.now reader.entry.terms.now
-        reader.entry.words.now))) }
+        (λ more. (m : AnyMixture) × AreSolved (map (λ c. c.items) ground.entry.clauses.now ++
+        map (λ c. c.items) ground.entry.gates.now) m × AreBrokenBy reader.entry.signature.now
+        reader.entry.arena.now reader.entry.terms.now reader.entry.words.now
+        ground.entry.facts.now ground.entry.first m.values.items more))) }
 {
     match solve(alloc, reader, ground)? {
         None => Ok(None),
@@ -178,7 +181,9 @@ fn found_for(
         (terms : List GroundTerm) (closed : Bool) → IsOver signature.now [] f → IsNormal f →
         IsSpoken signature.now arena.now f terms closed spoken.now → IsGroundFor signature.now
         arena.now spoken.now clauses.now → HasTable signature.now f terms spoken.now found)
-        (AreCongruences signature.now arena.now spoken.now.made.terms spoken.now.words))) }
+        (λ more. (is : IsGroundFor signature.now arena.now spoken.now clauses.now) →
+        AreNewCongruences signature.now arena.now spoken.now.made.terms spoken.now.words is.cs
+        more))) }
 {
     let _gates = spoken.made.gates.len();
     let _nodes = arena.len();
@@ -227,19 +232,16 @@ fn round_by(
     ensures some { IfOk result (λ found. IfSome found (IsRound (λ found. (f : Formula)
         (terms : List GroundTerm) (closed : Bool) → IsOver signature.now [] f → IsNormal f →
         IsSpoken signature.now arena.now f terms closed spoken.now → HasTable signature.now f terms
-        spoken.now found) (AreCongruences signature.now arena.now spoken.now.made.terms
-        spoken.now.words))) }
+        spoken.now found) (AreNewCongruences signature.now arena.now spoken.now.made.terms
+        spoken.now.words (clauses_at arena.now spoken.now.made.terms (map (λ c. c.items)
+        facts.now))))) }
 {
     let clauses = ground_clauses(alloc, arena, spoken, facts)?;
     found_for(alloc, arena, signature, spoken, &clauses)
 }
 
-/// How many rounds a search has at most. Each adds a clause of congruence that all before lack, so
-/// a search ends long before.
-const MOST_ROUNDS: u32 = u32::MAX;
-
 /// What is found for instances with their vocabulary. Clauses of congruence are added where what a
-/// round found breaks some.
+/// round found breaks some: these were not there, and there are only so many, so the rounds end.
 fn table_for(
     alloc: Global,
     arena: &Arena,
@@ -258,14 +260,13 @@ fn table_for(
         spoken.now found)) }
 {
     let mut facts = first_clauses(alloc, arena, signature, spoken)?;
-    for _round in 0..MOST_ROUNDS {
+    'rounds: loop {
         match round_by(alloc, arena, signature, spoken, facts.as_slice())? {
             None => return Ok(None),
             Some(Round::Table(found)) => return Ok(Some(found)),
             Some(Round::Broken(more)) => add_congruences(more, &mut facts)?,
         }
     }
-    Err(AllocError)
 }
 
 /// The instances of a formula with their vocabulary.
