@@ -1,4 +1,5 @@
 pub mod Assigned
+pub mod AtomLists
 pub mod ClauseStates
 pub mod CollectedClauses
 pub mod Droppings

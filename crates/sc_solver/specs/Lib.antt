@@ -1,5 +1,6 @@
 pub mod Assignment
 pub mod Assumed
+pub mod Atoms
 pub mod Clauses
 pub mod ContextView
 pub mod Dropping

@@ -6,15 +6,16 @@ ghost use Rattle.std.specs.Option.{option_to_list};
 ghost use Rattle.sc_procedure.specs.Models.{HasModel, IsCore};
 ghost use Rattle.sc_solver.specs.Trail.{literal_of};
 
+use crate::atoms::Atoms;
 use crate::literal::PLit;
 use sc_procedure::{LitBuf, Theory};
 
 /// The theory's literal for a literal, where its variable has an atom.
-pub fn theory_literal<L: Copy>(atoms: &[Option<(L, L)>], literal: PLit) -> Option<L>
+pub fn theory_literal<L: Copy>(atoms: &Atoms<L>, literal: PLit) -> Option<L>
     requires { literal.var < length atoms.now }
     ensures { result ≡ literal_of atoms.now literal }
 {
-    let (yes, no) = atoms[literal.var as usize]?;
+    let (yes, no) = atoms.get(literal.var as usize)?;
     Some(if literal.plus { yes } else { no })
 }
 

@@ -54,7 +54,7 @@ impl Clauses {
     }
 
     /// These clauses.
-    pub fn from_lists(alloc: Global, lists: &[Vec<PLit>]) -> Result<Clauses, AllocError>
+    pub(crate) fn from_lists(alloc: Global, lists: &[Vec<PLit>]) -> Result<Clauses, AllocError>
         ensures { IfOk result (λ c. c.list ≡ map (λ list. list.items) lists.now) }
     {
         let mut clauses = Clauses::new(alloc);
@@ -81,7 +81,7 @@ impl Clauses {
     }
 
     /// The literals of the clause at a place, where there is one.
-    pub fn get(&self, index: usize) -> Option<&[PLit]>
+    pub(crate) fn get(&self, index: usize) -> Option<&[PLit]>
         ensures { option_map (λ clause. clause.now) result ≡ slice_get self.now.list index }
     {
         if index < self.spans.len() {
@@ -92,7 +92,11 @@ impl Clauses {
     }
 
     /// No clauses, with room for so many with so many literals in all.
-    pub fn with_room(alloc: Global, clauses: usize, literals: usize) -> Result<Clauses, AllocError>
+    pub(crate) fn with_room(
+        alloc: Global,
+        clauses: usize,
+        literals: usize,
+    ) -> Result<Clauses, AllocError>
         ensures { IfOk result (λ c. c ≡ record {
           list = [];
           held = 0;
@@ -118,7 +122,7 @@ impl Clauses {
     }
 
     /// Whether there is memory for one clause more of so many literals.
-    pub fn has_room(&self, literals: usize) -> bool
+    pub(crate) fn has_room(&self, literals: usize) -> bool
         ensures { IsTrue result ↔ HasRoom self.now literals }
     {
         let held = self.literals.len();
@@ -127,7 +131,7 @@ impl Clauses {
     }
 
     /// Puts a clause at the end for which there is memory.
-    pub fn push_within(&mut self, clause: &[PLit])
+    pub(crate) fn push_within(&mut self, clause: &[PLit])
         requires { HasRoom self.old (length clause.now) }
         ensures list { self.new.list ≡ self.old.list ++ clause.now ∷ [] }
         ensures held { self.new.held ≡ self.old.held + length clause.now }
@@ -141,7 +145,7 @@ impl Clauses {
     }
 
     /// Takes all clauses out. Their memory stays.
-    pub fn clear(&mut self)
+    pub(crate) fn clear(&mut self)
         ensures list { self.new.list ≡ [] }
         ensures held { self.new.held ≡ 0 }
         ensures literal_room { self.new.literal_room ≡ self.old.literal_room }

@@ -1,6 +1,6 @@
 //! The clauses, the theory and the trail in step.
 
-ghost use Rattle.std.specs.Prelude.{◌≡◌, ◌↔◌, ◌<◌, ◌≤◌, ◌∷◌, ◌++◌, [], None, Some, length, reverse, All, vec_len, IfOk, IfSome, IsSomeAnd, IsTrue, OnOk, OnErr, MatchOption, slice_get, slice_index_or, slice_set, false};
+ghost use Rattle.std.specs.Prelude.{◌≡◌, ◌↔◌, ◌<◌, ◌≤◌, ◌∷◌, ◌++◌, [], None, Some, length, reverse, All, IfOk, IfSome, IsSomeAnd, IsTrue, OnOk, OnErr, MatchOption, slice_get, slice_index_or, slice_set, false};
 ghost use Rattle.std.specs.Bool.{OnTrue, OnFalse};
 ghost use Rattle.sc_procedure.specs.Models.{HasModelSaying};
 ghost use Rattle.sc_solver.specs.Assignment.{negated};
@@ -13,6 +13,7 @@ ghost use Rattle.sc_solver.specs.Trail.{value_in, Forces, Follows, IsTrail, trai
 ghost use Rattle.sc_solver.specs.Units.{IsFoundIn};
 
 use crate::asserting::{theory_literal, try_assert};
+use crate::atoms::Atoms;
 use crate::clauses::Clauses;
 use crate::literal::PLit;
 use crate::marking::{collect, is_marked_but, mark_clause, mark_places, push_place};
@@ -27,7 +28,7 @@ use std::marker::Model;
 #[derive(Drop)]
 pub struct Context<T: Theory> {
     clauses: Clauses,
-    atoms: Vec<Option<(T::Lit, T::Lit)>>,
+    atoms: Atoms<T::Lit>,
     theory: T,
     trail: Trail,
     /// The variable of each literal that the theory has.
@@ -45,7 +46,7 @@ impl<T: Theory> Model for Context<T> {
     ghost view = { λ s. record {
       vars = s.trail.vars;
       clauses = s.clauses.list;
-      atoms = s.atoms.items;
+      atoms = s.atoms;
       theory = s.theory;
       entries = s.trail.entries;
     } };
@@ -53,7 +54,7 @@ impl<T: Theory> Model for Context<T> {
     ghost invariant = { λ s. IsKeptContext T.literals T.capacity T.takes T.models T.meets (record {
       vars = s.trail.vars;
       clauses = s.clauses.list;
-      atoms = s.atoms.items;
+      atoms = s.atoms;
       theory = s.theory;
       entries = s.trail.entries;
     }) s.places.items (vec_capacity s.places) s.core.capacity };
@@ -65,18 +66,18 @@ impl<T: Theory + Drop> Context<T> {
         alloc: Global,
         vars: u32,
         clauses: Clauses,
-        atoms: Vec<Option<(T::Lit, T::Lit)>>,
+        atoms: Atoms<T::Lit>,
         theory: T,
     ) -> Result<Context<T>, AllocError>
         requires empty { T.literals theory ≡ [] }
         requires room { vars ≤ T.capacity theory }
-        requires one_each { vec_len atoms ≡ vars }
-        requires taken { All (IsTaken (T.takes theory)) atoms.items }
+        requires one_each { length atoms ≡ vars }
+        requires taken { All (IsTaken (T.takes theory)) atoms }
         requires within { All (IsWithin vars) clauses.list }
         ensures { IfOk result (λ s. s ≡ record {
           vars = vars;
           clauses = clauses.list;
-          atoms = atoms.items;
+          atoms = atoms;
           theory = theory;
           entries = [];
         }) }
@@ -149,7 +150,7 @@ impl<T: Theory> Context<T> {
             result.plus) }
         ensures plain { slice_index_or self.now.atoms literal.var None ≡ None → result ≡ literal }
     {
-        match self.atoms[literal.var as usize] {
+        match self.atoms.get(literal.var as usize) {
             Some((when_true, _)) => PLit {
                 var: literal.var,
                 plus: self.theory.is_met(when_true),
@@ -188,7 +189,7 @@ impl<T: Theory> Context<T> {
             self.old.entries (negated entry.literal)) }
         ensures room { length self.old.entries < self.old.vars }
     {
-        let literal = theory_literal(self.atoms.as_slice(), entry.literal);
+        let literal = theory_literal(&self.atoms, entry.literal);
         if !try_assert(&mut self.theory, literal, &mut self.core) {
             mark_places(self.places.as_slice(), self.core.items(), marks);
             return false;
@@ -209,7 +210,7 @@ impl<T: Theory> Context<T> {
             ≡ trail_literals self.new.atoms self.new.entries }
     {
         let entry = self.trail.pop()?;
-        if theory_literal(self.atoms.as_slice(), entry.literal).is_some() {
+        if theory_literal(&self.atoms, entry.literal).is_some() {
             self.theory.undo(1);
             self.places.pop();
         }

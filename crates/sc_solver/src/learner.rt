@@ -1,6 +1,6 @@
 //! The steps of a search.
 
-ghost use Rattle.std.specs.Prelude.{◌≡◌, ◌≢◌, ℕ, ◌<◌, ◌≤◌, ◌∷◌, ◌++◌, ◌⊎◌, [], None, length, All, vec_len, IfOk, OnOk, OnErr, replicate, slice_set, false};
+ghost use Rattle.std.specs.Prelude.{◌≡◌, ◌≢◌, ℕ, ◌<◌, ◌≤◌, ◌∷◌, ◌++◌, ◌⊎◌, [], None, length, All, IfOk, OnOk, OnErr, replicate, slice_set, false};
 ghost use Rattle.std.specs.Bool.{OnTrue, OnFalse};
 ghost use Rattle.sc_solver.specs.Assignment.{negated};
 ghost use Rattle.sc_solver.specs.Clauses.{IsWithin};
@@ -20,6 +20,7 @@ mod forgetting;
 mod propagating;
 mod scanning;
 
+use crate::atoms::Atoms;
 use crate::clauses::Clauses;
 use crate::context::Context;
 use crate::learned::Learned;
@@ -91,20 +92,20 @@ impl<T: Theory + Drop> Learner<T> {
         alloc: Global,
         vars: u32,
         clauses: Clauses,
-        atoms: Vec<Option<(T::Lit, T::Lit)>>,
+        atoms: Atoms<T::Lit>,
         theory: T,
     ) -> Result<Learner<T>, AllocError>
         requires empty { T.literals theory ≡ [] }
         requires room { vars ≤ T.capacity theory }
-        requires one_each { vec_len atoms ≡ vars }
-        requires taken { All (IsTaken (T.takes theory)) atoms.items }
+        requires one_each { length atoms ≡ vars }
+        requires taken { All (IsTaken (T.takes theory)) atoms }
         requires within { All (IsWithin vars) clauses.list }
         requires few_vars { vars < MOST }
         requires few_clauses { length clauses.list < MOST }
         ensures state { IfOk result (λ s. s.state ≡ record {
           vars = vars;
           clauses = clauses.list;
-          atoms = atoms.items;
+          atoms = atoms;
           theory = theory;
           entries = [];
         }) }

@@ -24,6 +24,7 @@
 //! - `watches`: which clauses are looked at where a literal becomes false.
 //! - `looking`: a look at such a clause.
 //! - `units`: the scan of all clauses for one that is in conflict or a unit.
+//! - `atoms`: which variables stand for literals of the theory.
 //! - `asserting`: how a literal of the trail is asserted at the theory.
 //! - `trail`: the literals that are true so far, and which of them were decided.
 //! - `clauses`: clauses in one flat list.
@@ -34,6 +35,7 @@
 mod activities;
 mod allowance;
 mod asserting;
+mod atoms;
 mod clauses;
 mod context;
 mod heap;
@@ -52,5 +54,7 @@ mod trail;
 mod units;
 mod watches;
 
+pub use atoms::Atoms;
+pub use clauses::Clauses;
 pub use literal::PLit;
 pub use solver::{Answer, Prop, Solver};

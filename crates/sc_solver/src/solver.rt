@@ -8,6 +8,7 @@ ghost use Rattle.sc_solver.specs.ContextView.{IsTaken};
 ghost use Rattle.sc_solver.specs.SolverView.{IsLawfulFor, SameTerms};
 ghost use Rattle.sc_solver.specs.Values.{Follow, IsPropagated, Stay, set_value};
 
+use crate::atoms::Atoms;
 use crate::clauses::Clauses;
 use crate::learner::Learner;
 use crate::literal::PLit;
@@ -104,6 +105,34 @@ impl<T: Theory + Drop> Solver<T> {
         }) }
     {
         let clauses = Clauses::from_lists(alloc, clauses)?;
+        let atoms = Atoms::from_list(alloc, atoms.as_slice())?;
+        Solver::with_clauses(alloc, vars, clauses, atoms, theory)
+    }
+
+    /// The same of clauses and atoms that stand in one list each, so that nothing is copied.
+    pub fn with_clauses(
+        alloc: Global,
+        vars: u32,
+        clauses: Clauses,
+        atoms: Atoms<T::Lit>,
+        theory: T,
+    ) -> Result<Solver<T>, AllocError>
+        requires empty { T.literals theory ≡ [] }
+        requires room { vars ≤ T.capacity theory }
+        requires one_each { length atoms ≡ vars }
+        requires taken { All (IsTaken (T.takes theory)) atoms }
+        requires within { All (IsWithin vars) clauses.list }
+        requires few_vars { vars < MOST }
+        requires few_clauses { length clauses.list < MOST }
+        ensures { IfOk result (λ s. s ≡ record {
+          vars = vars;
+          clauses = clauses.list;
+          atoms = atoms;
+          theory = theory;
+          assignment = None;
+          values = replicate vars None;
+        }) }
+    {
         let assumed = Trail::new(alloc, vars)?;
         let learner = Learner::new(alloc, vars, clauses, atoms, theory)?;
         Ok(Solver {

@@ -17,11 +17,14 @@ kept c =
     let after_a = get_or_read c.swap.new.self.items c.args.a c.index-after_a.result.now (omega arith) c.index-after_a.ensures 0 in
     let after_b = get_or_read c.swap.new.self.items c.args.b c.index-after_b.result.now (omega arith) c.index-after_b.ensures 0 in
     subst (λ l. AreInverse l (set (set c.self.inside.prev.items c.index-after_a.result.now c.args.a) c.index-after_b.result.now c.args.b)) (sym same)
-    (AreInverse-exchanged next c.self.inside.prev.items c.args.a c.args.b c.self.invariant a_in b_in _ _
+    (AreInverse-exchanged next c.self.inside.prev.items c.args.a c.args.b c.self.invariant.0 a_in b_in _ _
     (after_a ∙ ap (λ l. get_or l c.args.a 0) same) (after_b ∙ ap (λ l. get_or l c.args.b 0) same))
 
 pub invariant_of-self : goal.invariant_of-self
-invariant_of-self c = kept c
+invariant_of-self c =
+    let size : length c.swap.new.self.items ≡ length c.self.inside.next.items =
+    ap length c.swap.ensures.items ∙ length-swap c.self.inside.next.items c.args.a c.args.b in
+    (kept c, omega (arith, c.self.invariant.1))
 
 pub returns-clause-injective : goal.returns-clause-injective
 returns-clause-injective c = IsInjective-from_inverse _ _ (kept c)

@@ -37,25 +37,25 @@ pub mark_places-requires : goal.mark_places-requires
 mark_places-requires g c =
     let vars = ap (λ (s : ContextView _ _). s.vars) c.self.view_is in
     let trail = c.self.inside.trail in
-    let each = subst (All (λ v. v < trail.vars)) (sym c.self.invariant.places_in_step) (trail_places-within trail.vars c.self.inside.atoms.items trail.entries c.self.invariant.state.is_trail) in
-    rw (c.as_slice-then-not-try_assert.ensures.value, c.requires.one_each, ← vars) each
+    let each = subst (All (λ v. v < trail.vars)) (sym c.self.invariant.places_in_step) (trail_places-within trail.vars c.self.inside.atoms trail.entries c.self.invariant.state.is_trail) in
+    rw (c.as_slice.ensures.value, c.requires.one_each, ← vars) each
 
 pub returns-then-not-try_assert-clause-why : goal.returns-then-not-try_assert-clause-why
 returns-then-not-try_assert-clause-why g c =
     let T = g.T.Theory in
     let vars = ap (λ (s : ContextView _ _). s.vars) c.self.view_is in
-    let literal = c.theory_literal-literal.ensures ∙ ap (λ atoms. literal_of atoms c.args.entry.literal) c.as_slice.ensures.value in
+    let literal = c.theory_literal-literal.ensures in
     subst (λ (s : ContextView _ _). ForcesMarked (Lawful T.models T.meets s) c.mark_places.new.marks s.entries (negated c.args.entry.literal)) c.self.view_is
     (conflict_forces T.literals T.capacity T.takes T.models T.meets _ c.self.inside.places.items _ _ c.self.invariant c.args.entry.literal c.mark_places.new.marks c.try_assert.new.core.items
     (rw vars c.requires.within) (rw (← literal) c.if-not-try_assert.ensures.why)
-    (rw (← c.items.ensures, ← c.as_slice-then-not-try_assert.ensures.value) c.mark_places.ensures.marked))
+    (rw (← c.items.ensures, ← c.as_slice.ensures.value) c.mark_places.ensures.marked))
 
 pub invariant_of-self-2 : goal.invariant_of-self-2
 invariant_of-self-2 g c =
     let T = g.T.Theory in
     let entries = ap (λ (s : ContextView _ _). s.entries) c.self.view_is in
     let vars = ap (λ (s : ContextView _ _). s.vars) c.self.view_is in
-    let literal = c.theory_literal-literal.ensures ∙ ap (λ atoms. literal_of atoms c.args.entry.literal) c.as_slice.ensures.value in
+    let literal = c.theory_literal-literal.ensures in
     let forced = subst (λ (s : ContextView _ _). OnFalse c.args.entry.decided (Forces (Lawful T.models T.meets s) s.entries c.args.entry.literal)) (sym c.self.view_is) c.requires.follows in
     let places = c.push_place.ensures.items ∙ ap (λ o. c.self.inside.places.items ++ option_to_list (option_map (λ _. c.args.entry.literal.var) o)) literal in
     rw (c.push.ensures.vars, c.push.ensures.entries, c.try_assert.ensures.core_capacity)

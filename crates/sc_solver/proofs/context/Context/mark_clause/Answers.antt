@@ -16,7 +16,7 @@ returns-then-index-len-clause-shown g c =
     let s : ContextView _ _ = record {
       vars = c.self.inside.trail.vars;
       clauses = c.self.inside.clauses.list;
-      atoms = c.self.inside.atoms.items;
+      atoms = c.self.inside.atoms;
       theory = c.self.inside.theory;
       entries = c.self.inside.trail.entries;
     } in

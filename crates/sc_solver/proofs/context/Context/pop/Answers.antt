@@ -8,10 +8,10 @@ pub invariant_of-self-then-is_some : goal.invariant_of-self-then-is_some
 invariant_of-self-then-is_some g c =
     let T = g.T.Theory in
     let before = T.literals c.self.inside.theory in
-    let literal = c.theory_literal.ensures ∙ ap (λ atoms. literal_of atoms c.in_ok-entry.entry.literal) c.as_slice.ensures.value in
+    let literal = c.theory_literal.ensures in
     let some = sym c.is_some.ensures ∙ c.if-is_some.true in
     let one = ap (λ o. length (option_to_list o)) (sym literal) ∙ length-some c.theory_literal.result some in
-    let last : is_some (literal_of c.self.inside.atoms.items c.in_ok-entry.entry.literal) ≡ true = ap is_some (sym literal) ∙ some in
+    let last : is_some (literal_of c.self.inside.atoms c.in_ok-entry.entry.literal) ≡ true = ap is_some (sym literal) ∙ some in
     let places = c.self.inside.places in
     let rest = c.pop-then-is_some.ensures.rest ∙ ap (λ n. take (n - 1) places.items) places.ok.0 in
     rw c.pop.ensures.vars
