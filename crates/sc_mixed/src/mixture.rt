@@ -9,7 +9,7 @@ ghost use Rattle.sc_solver.specs.Clauses.{IsWithin};
 ghost use Rattle.sc_mixed.specs.Mixed.{AreTaken, AreValues, IsMixed, IsMixture};
 
 use sc_order::{Diff, Order};
-use sc_solver::{Answer, PLit, Solver};
+use sc_solver::{Answer, Atoms, Clauses, PLit, Solver};
 use sc_theory::{Equality, EqualityLit, Pair, PairLit, Theory};
 use sqlite_items::Items;
 use std::alloc::{AllocError, Global};
@@ -128,31 +128,30 @@ fn procedures(
 pub fn search_mixed(
     alloc: Global,
     vars: u32,
-    clauses: &[Vec<PLit>],
-    atoms: Vec<Option<(PairLit<EqualityLit, Diff>, PairLit<EqualityLit, Diff>)>>,
+    clauses: Clauses,
+    atoms: Atoms<PairLit<EqualityLit, Diff>>,
     first: &[PLit],
     terms: usize,
     fixed: &[u32],
     numbers: usize,
 ) -> Result<Option<Mixture>, AllocError>
     requires few_vars { vars < 2000000000 }
-    requires few_clauses { length clauses.now < 2000000000 }
+    requires few_clauses { length clauses.list < 2000000000 }
     requires few_terms { terms < 2 ^ 32 }
     requires few_numbers { numbers < 2 ^ 32 }
     requires some { 0 < numbers }
     requires fixed_in { All (λ f. f < terms) fixed.now }
     requires fixed_once { AllPairs (λ f g. f ≢ g) fixed.now }
-    requires one_each { length atoms.items ≡ vars }
-    requires taken { AreTaken terms numbers atoms.items }
-    requires within { All (λ clause. IsWithin vars clause.items) clauses.now }
+    requires one_each { length atoms ≡ vars }
+    requires taken { AreTaken terms numbers atoms }
+    requires within { All (IsWithin vars) clauses.list }
     requires first_in { IsWithin vars first.now }
     ensures none { IfOk result (λ found. found ≡ None → (assignment : List Bool) → IsMixed terms
-        fixed.now numbers vars (map (λ c. c.items) clauses.now) atoms.items assignment → ⊥) }
-    ensures some { IfOk result (λ found. IfSome found (IsMixture vars (map (λ c. c.items)
-        clauses.now))) }
+        fixed.now numbers vars clauses.list atoms assignment → ⊥) }
+    ensures some { IfOk result (λ found. IfSome found (IsMixture vars clauses.list)) }
 {
     let theory = procedures(alloc, terms, fixed, numbers, vars as usize)?;
-    let solver = Solver::new(alloc, vars, clauses, atoms, theory)?;
+    let solver = Solver::with_clauses(alloc, vars, clauses, atoms, theory)?;
     match last_answer(alloc, vars, solver, first)? {
         None => Ok(None),
         Some((values, (classes, numbers))) => Ok(Some(Mixture {

@@ -175,10 +175,6 @@ module _ (g : Signature) (nodes : List Node) (f : Formula) (ts : List GroundTerm
       found_table m found formed placed once (subst (λ (cs : List (List Literal)). AreSolved cs m) k solved)
       (subst (λ (fs : List FactNode). HasColumns g nodes s.made.terms s.words fs first m.values.items found) e has) fits
 
--- two lists together
-pub at_items : {V X : Type 0} (items : V → List X) (cs ds gs hs : List V) → cs ≡ ds → gs ≡ hs → map items cs ++ map items gs ≡ map items ds ++ map items hs
-at_items items cs ds gs hs e k = ap (λ xs. map items xs ++ map items gs) e ∙ ap (λ ys. map items ds ++ map items ys) k
-
 -- clauses that are broken by what was found by columns
 pub broken_by : (g : Signature) (nodes : List Node) (terms : List TermNode) (w : Words) (facts : List FactNode) (first : ℕ) (values : List Bool) (found : Found)
     (o : Option (Vec (Vec FactLiteral Global) Global)) (clauses : Vec (Vec FactLiteral Global) Global) → o ≡ Some clauses → HasColumns g nodes terms w facts first values found

@@ -114,9 +114,6 @@ pub each_below : {V : Type 0} (items : V → List Literal) (bound : ℕ) (cs : L
 each_below items bound cs h c there =
     let (v, listed, same) = in_map items cs c there in subst (λ (c : List Literal). AreBelow bound c) same (All-Contains (λ v. AreBelow bound (items v)) cs v h listed)
 
-pub items_as : {V X : Type 0} (items : V → List X) (vs us : List V) → vs ≡ us → map items vs ≡ map items us
-items_as items vs us e = ap (map items) e
-
 -- what holds of a round
 pub round_too : (r : Round) (P P' : Found → Type 0) (Q Q' : List (List FactLiteral) → Type 0) → ((x : Found) → P x → P' x) → ((cs : List (List FactLiteral)) → Q cs → Q' cs) → IsRound P Q r → IsRound P' Q' r
 round_too (round.Table found) P P' Q Q' h k is = h found is

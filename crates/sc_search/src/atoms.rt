@@ -9,6 +9,7 @@ use crate::sides::{Reader, Side, side_of};
 use sc_clauses::FactNode;
 use sc_instances::Value;
 use sc_order::Diff;
+use sc_solver::Atoms;
 use sc_theory::{EqualityLit, PairLit};
 use std::alloc::{AllocError, Global};
 
@@ -110,11 +111,11 @@ fn atom_of(reader: Reader<'_>, fact: FactNode) -> Result<Atom, AllocError>
 pub(crate) fn push_atoms(
     reader: Reader<'_>,
     facts: &[FactNode],
-    atoms: &mut Vec<Atom>,
+    atoms: &mut Atoms<Lit>,
 ) -> Result<(), AllocError>
     ensures { OnOk result (AddsAtoms reader.entry.signature.now reader.entry.arena.now
         reader.entry.terms.now reader.entry.words.now reader.entry.texts.now facts.now
-        atoms.old.items atoms.new.items) }
+        atoms.old atoms.new) }
 {
     for fact in facts {
         let atom = atom_of(reader, *fact)?;
@@ -124,11 +125,12 @@ pub(crate) fn push_atoms(
 }
 
 /// Puts so many variables without literals at the end.
-pub(crate) fn push_plain(alloc: Global, count: u32, atoms: &mut Vec<Atom>) -> Result<(), AllocError>
-    ensures { OnOk result (atoms.new.items ≡ atoms.old.items ++ replicate count None) }
+pub(crate) fn push_plain(count: u32, atoms: &mut Atoms<Lit>) -> Result<(), AllocError>
+    ensures { OnOk result (atoms.new ≡ atoms.old ++ replicate count None) }
 {
-    let mut plain: Vec<Atom> = vec![in alloc; None; count as usize]?;
-    atoms.append(&mut plain)?;
+    for _done in 0..count {
+        atoms.push(None)?;
+    }
     Ok(())
 }
 
@@ -154,17 +156,17 @@ pub(crate) fn atoms_for(
     vars: u32,
     facts: &[FactNode],
     halves: &[FactNode],
-) -> Result<Vec<Atom>, AllocError>
+) -> Result<Atoms<Lit>, AllocError>
     ensures { IfOk result (λ atoms. AreAtomsFor reader.entry.signature.now
         reader.entry.arena.now reader.entry.terms.now reader.entry.words.now
-        reader.entry.texts.now first vars facts.now halves.now atoms.items) }
+        reader.entry.texts.now first vars facts.now halves.now atoms) }
 {
     let behind = (first as usize).checked_add(facts.len());
     let gap = gap_of(first, facts.len(), vars)?;
-    let mut atoms = Vec::new(alloc);
-    push_plain(alloc, first, &mut atoms)?;
+    let mut atoms = Atoms::new(alloc);
+    push_plain(first, &mut atoms)?;
     push_atoms(reader, facts, &mut atoms)?;
-    push_plain(alloc, gap, &mut atoms)?;
+    push_plain(gap, &mut atoms)?;
     push_atoms(reader, halves, &mut atoms)?;
     Ok(atoms)
 }

@@ -12,7 +12,7 @@ ghost use Rattle.sc_search.specs.Problem.{AreBelow, plit_of};
 use crate::atoms::{Atom, Lit};
 use sc_gates::Literal;
 use sc_order::Diff;
-use sc_solver::PLit;
+use sc_solver::{Atoms, Clauses, PLit};
 use sc_theory::{EqualityLit, PairLit};
 use std::alloc::{AllocError, Global};
 
@@ -30,34 +30,28 @@ fn plits_of(alloc: Global, clause: &[Literal]) -> Result<Vec<PLit>, AllocError>
     Ok(plits)
 }
 
-/// Puts clauses for the solver at the end.
+/// Puts clauses at the end of those for the solver.
 pub(crate) fn push_clauses(
     alloc: Global,
     clauses: &[Vec<Literal>],
-    all: &mut Vec<Vec<PLit>>,
+    all: &mut Clauses,
 ) -> Result<(), AllocError>
-    ensures { OnOk result (map (λ c. c.items) all.new.items ≡ map (λ c. c.items) all.old.items
-        ++ map (map plit_of) (map (λ c. c.items) clauses.now)) }
+    ensures { OnOk result (all.new.list ≡ all.old.list ++ map (map plit_of) (map (λ c. c.items)
+        clauses.now)) }
 {
     for clause in clauses {
         let plits = plits_of(alloc, clause.as_slice())?;
-        all.push(plits)?;
+        all.push(plits.as_slice())?;
     }
     Ok(())
 }
 
 /// Puts copies of clauses at the end.
-pub(crate) fn push_copies(
-    alloc: Global,
-    clauses: &[Vec<PLit>],
-    all: &mut Vec<Vec<PLit>>,
-) -> Result<(), AllocError>
-    ensures { OnOk result (map (λ c. c.items) all.new.items ≡ map (λ c. c.items) all.old.items
-        ++ map (λ c. c.items) clauses.now) }
+pub(crate) fn push_copies(clauses: &[Vec<PLit>], all: &mut Clauses) -> Result<(), AllocError>
+    ensures { OnOk result (all.new.list ≡ all.old.list ++ map (λ c. c.items) clauses.now) }
 {
     for clause in clauses {
-        let copy = Vec::from_slice(alloc, clause.as_slice())?;
-        all.push(copy)?;
+        all.push(clause.as_slice())?;
     }
     Ok(())
 }
@@ -99,11 +93,11 @@ pub(crate) fn is_within(bound: u32, clause: &[PLit]) -> bool
 }
 
 /// Whether the variables of clauses for the solver are below a bound.
-pub(crate) fn are_within(bound: u32, clauses: &[Vec<PLit>]) -> bool
-    ensures { result ≡ true → All (λ c. IsWithin bound c.items) clauses.now }
+pub(crate) fn are_within(bound: u32, clauses: &Clauses) -> bool
+    ensures { result ≡ true → All (IsWithin bound) clauses.now.list }
 {
-    for clause in clauses {
-        if !is_within(bound, clause.as_slice()) {
+    for place in 0..clauses.len() {
+        if !is_within(bound, clauses.clause(place)) {
             return false;
         }
     }
@@ -128,24 +122,24 @@ fn is_taken(terms: u32, numbers: u32, literal: Lit) -> bool
 }
 
 /// Whether the literals of a variable speak of terms and numbers that there are.
-fn is_taken_atom(terms: u32, numbers: u32, atom: &Atom) -> bool
+fn is_taken_atom(terms: u32, numbers: u32, atom: Atom) -> bool
     ensures { result ≡ true → IsTaken (takes_own (takes_literal terms) (is_literal numbers))
-        atom.now }
+        atom }
 {
     match atom {
         Some((when_true, when_false)) => {
-            is_taken(terms, numbers, *when_true) && is_taken(terms, numbers, *when_false)
+            is_taken(terms, numbers, when_true) && is_taken(terms, numbers, when_false)
         }
         None => true,
     }
 }
 
 /// Whether literals speak of terms and numbers that there are.
-pub(crate) fn are_taken(terms: u32, numbers: u32, atoms: &[Atom]) -> bool
+pub(crate) fn are_taken(terms: u32, numbers: u32, atoms: &Atoms<Lit>) -> bool
     ensures { result ≡ true → AreTaken terms numbers atoms.now }
 {
-    for atom in atoms {
-        if !is_taken_atom(terms, numbers, atom) {
+    for var in 0..atoms.len() {
+        if !is_taken_atom(terms, numbers, atoms.get(var)) {
             return false;
         }
     }

@@ -32,6 +32,7 @@ use sc_clauses::{FactLiteral, GroundClauses, ground_clauses};
 use sc_columns::{Pairs, Source, check_facts, check_ranges, found_by};
 use sc_demand::broken_congruences;
 use sc_formula::{Arena, Signature};
+use sc_gates::Literal;
 use sc_ground::{Terms, variables_of};
 use sc_instances::{Instances, instantiate};
 use sc_mixed::Mixture;
@@ -119,24 +120,26 @@ fn found_by_clauses(
     alloc: Global,
     reader: Reader<'_>,
     ground: Ground<'_>,
+    clauses: Vec<Vec<Literal>>,
+    gates: Vec<Vec<Literal>>,
 ) -> Result<Option<Round>, AllocError>
     requires once { StandOnce reader.texts.now }
     requires words { IsWords reader.terms.now reader.words.now }
     ensures none { IfOk result (λ found. found ≡ None → IsNowhere reader.entry.signature.now
         reader.entry.arena.now reader.entry.terms.now reader.entry.words.now
         reader.entry.texts.now ground.entry.first ground.entry.facts.now (map (λ c. c.items)
-        ground.entry.clauses.now ++ map (λ c. c.items) ground.entry.gates.now)) }
+        clauses.items ++ map (λ c. c.items) gates.items)) }
     ensures some { IfOk result (λ found. IfSome found (IsRound (λ f. (m : AnyMixture) × AreSolved
-        (map (λ c. c.items) ground.entry.clauses.now ++ map (λ c. c.items)
-        ground.entry.gates.now) m × (HasColumns reader.entry.signature.now reader.entry.arena.now
+        (map (λ c. c.items) clauses.items ++ map (λ c. c.items)
+        gates.items) m × (HasColumns reader.entry.signature.now reader.entry.arena.now
         reader.entry.terms.now reader.entry.words.now ground.entry.facts.now ground.entry.first
         m.values.items f × IsFoundCongruent reader.entry.terms.now reader.entry.words.now f))
-        (λ more. (m : AnyMixture) × AreSolved (map (λ c. c.items) ground.entry.clauses.now ++
-        map (λ c. c.items) ground.entry.gates.now) m × AreBrokenBy reader.entry.signature.now
+        (λ more. (m : AnyMixture) × AreSolved (map (λ c. c.items) clauses.items ++
+        map (λ c. c.items) gates.items) m × AreBrokenBy reader.entry.signature.now
         reader.entry.arena.now reader.entry.terms.now reader.entry.words.now
         ground.entry.facts.now ground.entry.first m.values.items more))) }
 {
-    match solve(alloc, reader, ground)? {
+    match solve(alloc, reader, ground, clauses, gates)? {
         None => Ok(None),
         Some(mixture) => {
             let round = found_from(alloc, reader, ground, &mixture)?;
@@ -170,29 +173,33 @@ fn found_for(
     arena: &Arena,
     signature: &Signature,
     spoken: &Spoken,
-    clauses: &GroundClauses,
+    clauses: GroundClauses,
 ) -> Result<Option<Round>, AllocError>
     requires { IsWords spoken.now.made.terms spoken.now.words }
     ensures none { IfOk result (λ found. found ≡ None → (f : Formula) (terms : List GroundTerm)
         (closed : Bool) → IsOver signature.now [] f → IsNormal f → IsSpoken signature.now arena.now
-        f terms closed spoken.now → IsGroundFor signature.now arena.now spoken.now clauses.now →
+        f terms closed spoken.now → IsGroundFor signature.now arena.now spoken.now clauses →
         IsSatisfiableOver signature.now f (Contains terms) → ⊥) }
     ensures some { IfOk result (λ found. IfSome found (IsRound (λ found. (f : Formula)
         (terms : List GroundTerm) (closed : Bool) → IsOver signature.now [] f → IsNormal f →
         IsSpoken signature.now arena.now f terms closed spoken.now → IsGroundFor signature.now
-        arena.now spoken.now clauses.now → HasTable signature.now f terms spoken.now found)
-        (λ more. (is : IsGroundFor signature.now arena.now spoken.now clauses.now) →
+        arena.now spoken.now clauses → HasTable signature.now f terms spoken.now found)
+        (λ more. (is : IsGroundFor signature.now arena.now spoken.now clauses) →
         AreNewCongruences signature.now arena.now spoken.now.made.terms spoken.now.words is.cs
         more))) }
 {
     let _gates = spoken.made.gates.len();
     let _nodes = arena.len();
     let _terms = spoken.made.terms.len();
-    let vars = count_of(spoken, clauses)?;
+    let vars = count_of(spoken, &clauses)?;
     let first = count_of_inputs(spoken)?;
-    let facts = clauses.facts.as_slice();
-    let plain = clauses.clauses.as_slice();
-    let gates = clauses.gates.as_slice();
+    let GroundClauses {
+        facts,
+        clauses,
+        gates,
+        first_gate: _,
+    } = clauses;
+    let facts = facts.as_slice();
     let texts = texts_of(alloc, arena, facts)?;
     let own = texts.as_slice();
     see_texts(own);
@@ -203,14 +210,8 @@ fn found_for(
         words: &spoken.words,
         texts: own,
     };
-    let ground = Ground {
-        facts,
-        first,
-        vars,
-        clauses: plain,
-        gates,
-    };
-    found_by_clauses(alloc, reader, ground)
+    let ground = Ground { facts, first, vars };
+    found_by_clauses(alloc, reader, ground, clauses, gates)
 }
 
 /// What is found for instances with their vocabulary in one round, by these clauses on facts.
@@ -237,7 +238,7 @@ fn round_by(
         facts.now))))) }
 {
     let clauses = ground_clauses(alloc, arena, spoken, facts)?;
-    found_for(alloc, arena, signature, spoken, &clauses)
+    found_for(alloc, arena, signature, spoken, clauses)
 }
 
 /// What is found for instances with their vocabulary. Clauses of congruence are added where what a

@@ -1,12 +1,12 @@
 //! The search for values that meet clauses in which facts are as in a lawful model.
 
-ghost use Rattle.std.specs.Prelude.{◌≡◌, ◌+◌, ◌<◌, ◌++◌, Bool, List, None, IfOk, IfSome, length, map};
+ghost use Rattle.std.specs.Prelude.{◌≡◌, ◌+◌, ◌<◌, ◌++◌, Bool, List, None, IfOk, IfSome, OnOk, length, map};
 ghost use Rattle.std.specs.List.{range_with_len};
 ghost use Rattle.sc_mixed.specs.Mixed.{Atom as AnyAtom, IsMixed, IsMixture};
 ghost use Rattle.sc_search.specs.Problem.{AreSolved, IsNowhere, IsPlainlyMixed, plit_of};
 ghost use Rattle.sc_search.specs.Texts.{StandOnce};
 
-use crate::atoms::{Atom, atoms_for};
+use crate::atoms::{Lit, atoms_for};
 use crate::halves::halves_of;
 use crate::problem::{are_below, are_taken, are_within, is_within, push_clauses, push_copies};
 use crate::sides::Reader;
@@ -14,7 +14,7 @@ use sc_ast::Txt;
 use sc_clauses::FactNode;
 use sc_gates::Literal;
 use sc_mixed::{Mixture, search_mixed};
-use sc_solver::PLit;
+use sc_solver::{Atoms, Clauses, PLit};
 use sc_term_arena::TermArena;
 use std::alloc::{AllocError, Global};
 
@@ -77,22 +77,20 @@ fn search_checked(
     terms: u32,
     texts: u32,
     vars: u32,
-    clauses: &[Vec<PLit>],
-    atoms: Vec<Atom>,
+    clauses: Clauses,
+    atoms: Atoms<Lit>,
     first: &[PLit],
 ) -> Result<Option<Mixture>, AllocError>
     requires terms { terms < 1999999999 }
     requires texts { texts < 1999999999 }
     requires vars { vars < 2000000000 }
-    requires one_each { length atoms.items ≡ vars }
+    requires one_each { length atoms ≡ vars }
     ensures none { IfOk result (λ found. found ≡ None → (assignment : List Bool) → IsMixed (terms +
-        texts) (range_with_len terms texts) (terms + 1) vars (map (λ c. c.items) clauses.now)
-        atoms.items assignment → ⊥) }
-    ensures some { IfOk result (λ found. IfSome found (IsMixture vars (map (λ c. c.items)
-        clauses.now))) }
+        texts) (range_with_len terms texts) (terms + 1) vars clauses.list atoms assignment → ⊥) }
+    ensures some { IfOk result (λ found. IfSome found (IsMixture vars clauses.list)) }
 {
     let fixed = numbers_from(alloc, terms, texts)?;
-    if !are_taken(terms + texts, terms + 1, atoms.as_slice()) || !are_within(vars, clauses) {
+    if !are_taken(terms + texts, terms + 1, &atoms) || !are_within(vars, &clauses) {
         return Err(AllocError);
     }
     if !is_within(vars, first) {
@@ -113,33 +111,42 @@ fn search_checked(
     )
 }
 
+/// Puts clauses at the end of those for the solver, and keeps them no longer.
+fn move_clauses(
+    alloc: Global,
+    clauses: Vec<Vec<Literal>>,
+    all: &mut Clauses,
+) -> Result<(), AllocError>
+    ensures { OnOk result (all.new.list ≡ all.old.list ++ map (map plit_of) (map (λ c. c.items)
+        clauses.items)) }
+{
+    push_clauses(alloc, clauses.as_slice(), all)
+}
+
 /// All clauses for the solver.
 fn clauses_for(
     alloc: Global,
-    clauses: &[Vec<Literal>],
-    gates: &[Vec<Literal>],
+    clauses: Vec<Vec<Literal>>,
+    gates: Vec<Vec<Literal>>,
     links: &[Vec<PLit>],
-) -> Result<Vec<Vec<PLit>>, AllocError>
-    ensures { IfOk result (λ all. map (λ c. c.items) all.items ≡ (map (map plit_of) (map (λ c.
-        c.items) clauses.now) ++ map (map plit_of) (map (λ c. c.items) gates.now)) ++ map (λ c.
-        c.items) links.now) }
+) -> Result<Clauses, AllocError>
+    ensures { IfOk result (λ all. all.list ≡ (map (map plit_of) (map (λ c. c.items) clauses.items)
+        ++ map (map plit_of) (map (λ c. c.items) gates.items)) ++ map (λ c. c.items) links.now) }
 {
-    let mut all = Vec::new(alloc);
-    push_clauses(alloc, clauses, &mut all)?;
-    push_clauses(alloc, gates, &mut all)?;
-    push_copies(alloc, links, &mut all)?;
+    let mut all = Clauses::new(alloc);
+    move_clauses(alloc, clauses, &mut all)?;
+    move_clauses(alloc, gates, &mut all)?;
+    push_copies(links, &mut all)?;
     Ok(all)
 }
 
-/// The clauses that a search has to meet.
+/// The facts of which the clauses speak that a search has to meet.
 #[derive(Clone, Copy)]
 pub(crate) struct Ground<'a> {
     pub(crate) facts: &'a [FactNode],
     /// The variable of the first fact, and how many variables there are.
     pub(crate) first: u32,
     pub(crate) vars: u32,
-    pub(crate) clauses: &'a [Vec<Literal>],
-    pub(crate) gates: &'a [Vec<Literal>],
 }
 
 /// Whether a fact is tried as true first: that a sort has no element, since the less there is, the
@@ -174,25 +181,29 @@ fn solve_with(
     alloc: Global,
     reader: Reader<'_>,
     ground: Ground<'_>,
+    clauses: Vec<Vec<Literal>>,
+    gates: Vec<Vec<Literal>>,
     halves: &[FactNode],
     links: &[Vec<PLit>],
 ) -> Result<Option<Mixture>, AllocError>
     ensures none { IfOk result (λ found. found ≡ None → (atoms : List AnyAtom) × IsPlainlyMixed
         reader.entry.signature.now reader.entry.arena.now reader.entry.terms.now
         reader.entry.words.now reader.entry.texts.now ground.entry.first ground.entry.vars
-        ground.entry.facts.now halves.now (map (λ c. c.items) ground.entry.clauses.now
-        ++ map (λ c. c.items) ground.entry.gates.now) (map (λ c. c.items) links.now)
+        ground.entry.facts.now halves.now (map (λ c. c.items) clauses.items
+        ++ map (λ c. c.items) gates.items) (map (λ c. c.items) links.now)
         atoms) }
     ensures some { IfOk result (λ found. IfSome found (AreSolved (map (λ c. c.items)
-        ground.entry.clauses.now ++ map (λ c. c.items) ground.entry.gates.now))) }
+        clauses.items ++ map (λ c. c.items) gates.items))) }
 {
     let terms = few_terms(reader.terms)?;
     let texts = few_texts(reader.texts)?;
     let total = few_variables(ground.vars, halves)?;
-    if !are_below(ground.vars, ground.clauses) || !are_below(ground.vars, ground.gates) {
+    let own = clauses.as_slice();
+    let others = gates.as_slice();
+    if !are_below(ground.vars, own) || !are_below(ground.vars, others) {
         return Err(AllocError);
     }
-    let clauses = clauses_for(alloc, ground.clauses, ground.gates, links)?;
+    let clauses = clauses_for(alloc, clauses, gates, links)?;
     let atoms = atoms_for(
         alloc,
         reader,
@@ -210,7 +221,7 @@ fn solve_with(
         terms,
         texts,
         total,
-        clauses.as_slice(),
+        clauses,
         atoms,
         values.as_slice(),
     )
@@ -222,17 +233,19 @@ pub(crate) fn solve(
     alloc: Global,
     reader: Reader<'_>,
     ground: Ground<'_>,
+    clauses: Vec<Vec<Literal>>,
+    gates: Vec<Vec<Literal>>,
 ) -> Result<Option<Mixture>, AllocError>
     requires { StandOnce reader.texts.now }
     ensures none { IfOk result (λ found. found ≡ None → IsNowhere reader.entry.signature.now
         reader.entry.arena.now reader.entry.terms.now reader.entry.words.now
         reader.entry.texts.now ground.entry.first ground.entry.facts.now (map (λ c. c.items)
-        ground.entry.clauses.now ++ map (λ c. c.items) ground.entry.gates.now)) }
+        clauses.items ++ map (λ c. c.items) gates.items)) }
     ensures some { IfOk result (λ found. IfSome found (AreSolved (map (λ c. c.items)
-        ground.entry.clauses.now ++ map (λ c. c.items) ground.entry.gates.now))) }
+        clauses.items ++ map (λ c. c.items) gates.items))) }
 {
     let halves = halves_of(alloc, reader, ground.first, ground.vars, ground.facts)?;
     let facts = halves.facts.as_slice();
     let links = halves.links.as_slice();
-    solve_with(alloc, reader, ground, facts, links)
+    solve_with(alloc, reader, ground, clauses, gates, facts, links)
 }

@@ -5,6 +5,6 @@ use Rattle.sc_pair.specs.Pair.{PairState}
 use Rattle.sc_mixed.specs.Mixed.{AreTaken}
 use Rattle.sc_mixed.proofs.mixture.search_mixed.Goals as goal
 
-pub new-requires-clause-taken : goal.new-requires-clause-taken
-new-requires-clause-taken c =
-    let P : PairState Equalities Constraints → Type 0 = λ p. AreTaken p.left.terms p.right.variables c.args.atoms.items in subst P (sym c.in_ok-theory.ensures) c.requires.taken
+pub with_clauses-requires-clause-taken : goal.with_clauses-requires-clause-taken
+with_clauses-requires-clause-taken c =
+    let P : PairState Equalities Constraints → Type 0 = λ p. AreTaken p.left.terms p.right.variables c.args.atoms in subst P (sym c.in_ok-theory.ensures) c.requires.taken

@@ -1,14 +1,15 @@
-use Rattle.std.proofs.Common.{List, Vec, Global, arith, refl, subst}
+use Rattle.std.proofs.Common.{List, [], arith, refl, subst, sym}
+use Rattle.std.proofs.lemmas.Option.{get_or_from_slice_get}
 use Rattle.sc_solver.specs.declared.literal.PLit.{PLit}
 use Rattle.sc_solver.specs.Clauses.{IsWithin}
 use Rattle.sc_search.proofs.Loops.{all_more, all_done}
 use Rattle.sc_search.proofs.problem.are_within.Goals as goal
 
-pub loop-clause-preserved : goal.loop-clause-preserved
-loop-clause-preserved c =
-    all_more (λ clause. IsWithin c.args.bound clause.items) c.args.clauses.now c.loop-clause.clause-index c.clause-item.result c.loop-clause-test.true c.loop-clause.invariant
-    (subst (λ (v : Vec PLit Global). IsWithin c.args.bound v.items) c.clause-item.is
-    (subst (λ (ls : List PLit). IsWithin c.args.bound ls) c.as_slice.ensures.value (c.if-not-is_within.ensures refl)))
+pub loop-place-preserved : goal.loop-place-preserved
+loop-place-preserved c =
+    let here = get_or_from_slice_get c.args.clauses.now.list c.loop-place.place c.clause.result.now [] c.clause.ensures in
+    all_more (IsWithin c.args.bound) c.args.clauses.now.list c.loop-place.place [] (omega (arith, c.loop-place-test.true)) c.loop-place.invariant
+    (subst (λ (ls : List PLit). IsWithin c.args.bound ls) (sym here) (c.if-not-is_within.ensures refl))
 
 pub returns : goal.returns
-returns c = λ same. all_done (λ clause. IsWithin c.args.bound clause.items) c.args.clauses.now c.loop-clause.clause-index (omega arith) c.loop-clause.invariant
+returns c = λ same. all_done (IsWithin c.args.bound) c.args.clauses.now.list c.loop-place.place (omega arith) c.loop-place.invariant

@@ -11,7 +11,7 @@ pub returns-in_ok-round-in-Some-clause-some : goal.returns-in_ok-round-in-Some-c
 returns-in_ok-round-in-Some-clause-some c =
     let r = c.args.reader in
     let ground = c.args.ground in
-    let all = map (λ c. c.items) ground.clauses.now ++ map (λ c. c.items) ground.gates.now in
+    let all = map (λ c. c.items) c.args.clauses.items ++ map (λ c. c.items) c.args.gates.items in
     let P : Option Mixture → Type 0 = λ o. IfSome o (AreSolved all) in
     let Q : Mixture → List (List FactLiteral) → Type 0 = λ m more.
     AreBrokenBy r.signature.now r.arena.now r.terms.now r.words.now ground.facts.now ground.first m.values.items more in
