@@ -7,8 +7,9 @@ ghost use Rattle.sc_instances.specs.Instances.{IsGate, IsInstance, IsReady, inst
 ghost use Rattle.sc_instances.specs.Instances.{part_test};
 
 use crate::instance::{Above, Instance};
+use crate::leaves::make_leaf;
 use crate::lists::items_of;
-use crate::make::{make_atom, make_both, make_constant, make_either, make_exists, make_forall};
+use crate::make::{make_both, make_either, make_exists, make_forall};
 use crate::work::{Source, Work};
 use sc_formula::Node;
 use std::alloc::{AllocError, Global};
@@ -34,10 +35,6 @@ fn make_node(
         (formula_of source.entry.arena.now node))) }
 {
     match source.arena.node(node) {
-        Node::Yes => {
-            let gate = make_constant(work, true)?;
-            Ok(gate)
-        }
         Node::And(a, b) => {
             let gate = make_both(alloc, source, work, *a, *b, above)?;
             Ok(gate)
@@ -54,13 +51,8 @@ fn make_node(
             let gate = make_forall(alloc, source, work, *sort, *a, above)?;
             Ok(gate)
         }
-        Node::Not(a) => {
-            let gate = make_atom(alloc, source, work, *a, false, above)?;
-            Ok(gate)
-        }
-        // An atom, or what is false.
         _ => {
-            let gate = make_atom(alloc, source, work, node, true, above)?;
+            let gate = make_leaf(alloc, source, work, node, above)?;
             Ok(gate)
         }
     }

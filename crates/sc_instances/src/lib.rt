@@ -9,7 +9,7 @@
 //! - `shapes`: what of a formula tells its instances apart.
 //! - `instance`: instances of parts of a formula.
 //! - `memo`: the gates that were made, by their instances.
-//! - `work`, `make`, `dispatch`: the gate of an instance, from those of its parts.
+//! - `work`, `make`, `leaves`, `dispatch`: the gate of an instance, from those of its parts.
 //! - `instantiation`: the gate of a formula.
 #![tactic(auto)]
 
@@ -21,6 +21,7 @@ mod inputs;
 mod instance;
 mod instantiation;
 mod joins;
+mod leaves;
 mod lists;
 mod make;
 mod memo;

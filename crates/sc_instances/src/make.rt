@@ -193,6 +193,9 @@ fn make_one(
         arguments: arguments.as_slice(),
     };
     let body = work.seek(alloc, source, a, below)?;
+    if body.is_none() {
+        return Ok(None);
+    }
     let absent = work.board.input(Input::There(t), false)?;
     let gate = join_either(&mut work.board, Some(absent), body)?;
     Ok(gate)

@@ -7,9 +7,10 @@ ghost use Rattle.sc_instances.specs.Instances.{IsGate, IsReady, part_test};
 
 use crate::board::Board;
 use crate::instance::{Above, Instance, instance_of};
+use crate::leaves::make_leaf;
 use crate::memo::Memo;
 use crate::shapes::Shape;
-use sc_formula::{Arena, Signature};
+use sc_formula::{Arena, Node, Signature};
 use std::alloc::{AllocError, Global};
 
 /// What instances are made of.
@@ -42,8 +43,41 @@ pub(crate) fn number_after(number: u32, quantifiers: u32) -> Result<u32, AllocEr
 }
 
 impl Work {
-    /// The gate of a part, if it was made; else the part's instance is missing.
+    /// The gate of a part: an atom's at once, and that of another part if it was made; else the
+    /// part's instance is missing.
     pub(crate) fn seek(
+        &mut self,
+        alloc: Global,
+        source: Source<'_>,
+        node: u32,
+        above: Above<'_>,
+    ) -> Result<Option<u32>, AllocError>
+        requires part { IsFormula source.arena.now node }
+        requires within { node < length source.shapes.now }
+        requires variables { AreOnes self.old.board.terms above.variables.now }
+        requires arguments { AreOnes self.old.board.terms above.arguments.now }
+        requires ready { IsReady source.signature.now source.arena.now source.shapes.now
+            source.listed.now self.old }
+        ensures { IfOk result (IsGate source.entry.signature.now source.entry.arena.now
+            source.entry.shapes.now source.entry.listed.now self.old self.new
+            (part_test source.entry.signature.now self.old.board.terms source.entry.listed.now
+            above.entry.number above.entry.variables.now above.entry.arguments.now
+            (formula_of source.entry.arena.now node))) }
+    {
+        match source.arena.node(node) {
+            Node::And(..) | Node::Or(..) | Node::Exists(..) | Node::Forall(..) => {
+                let gate = self.seek_made(alloc, source, node, above)?;
+                Ok(gate)
+            }
+            _ => {
+                let gate = make_leaf(alloc, source, self, node, above)?;
+                Ok(gate)
+            }
+        }
+    }
+
+    /// The gate of a part, if it was made; else the part's instance is missing.
+    fn seek_made(
         &mut self,
         alloc: Global,
         source: Source<'_>,

@@ -6,7 +6,7 @@ use Rattle.sc_instances.specs.Instances.{part_test, signed_test}
 use Rattle.sc_instances.proofs.BoardLaws.{grows_none}
 use Rattle.sc_instances.proofs.InstanceLaws.{from_later}
 use Rattle.sc_instances.proofs.MakeLaws.{other_node}
-use Rattle.sc_instances.proofs.dispatch.make_node.Goals as goal
+use Rattle.sc_instances.proofs.leaves.make_leaf.Goals as goal
 
 pub returns-in_ok-gate-in-Yes : goal.returns-in_ok-gate-in-Yes
 returns-in_ok-gate-in-Yes c =
@@ -50,3 +50,15 @@ returns-in_ok-gate-in_default c =
     c.in_default.not-Or c.in_default.not-Exists c.in_default.not-Forall i h
     ∙ sym (ap (λ (f : Formula). P f i h) is)))
     c.in_ok-gate-in_default.ensures
+
+pub returns-in-And : goal.returns-in-And
+returns-in-And c = record { ready = c.requires.ready; grows = grows_none c.args.work.now.board; means = tt }
+
+pub returns-in-And-2 : goal.returns-in-And-2
+returns-in-And-2 c = record { ready = c.requires.ready; grows = grows_none c.args.work.now.board; means = tt }
+
+pub returns-in-And-3 : goal.returns-in-And-3
+returns-in-And-3 c = record { ready = c.requires.ready; grows = grows_none c.args.work.now.board; means = tt }
+
+pub returns-in-And-4 : goal.returns-in-And-4
+returns-in-And-4 c = record { ready = c.requires.ready; grows = grows_none c.args.work.now.board; means = tt }

@@ -2,7 +2,7 @@ use Rattle.std.proofs.Common.{refl}
 use Rattle.sc_instances.proofs.BoardLaws.{grows_terms}
 use Rattle.sc_instances.proofs.InstanceLaws.{found_gate, missing_gate}
 use Rattle.sc_instances.proofs.ShapeLaws.{formula_shape}
-use Rattle.sc_instances.proofs.work.Work.seek.Goals as goal
+use Rattle.sc_instances.proofs.work.Work.seek_made.Goals as goal
 
 pub returns-in-Some : goal.returns-in-Some
 returns-in-Some c =
