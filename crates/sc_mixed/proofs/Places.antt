@@ -44,3 +44,20 @@ found_values models meets n vars clauses old atoms (Some a) values some h k e d 
     let P : ℕ → Type 0 = λ n. AreValues n old values in
     let Q : List (List PLit) → Type 0 = λ cs. AreValues vars cs values in
     subst P e (subst Q d (lawful_values models meets vars clauses atoms a values h (k ∙ ap (λ n. map (value_at a) (range_with_len 0 n)) (sym e))))
+
+-- the values of a lawful assignment are one, also of what was there before
+pub found_lawful : {M L : Type 0} (models before : M → Bool) (meets : M → L → Bool) (n vars own : ℕ) (clauses old : List (List PLit)) (atoms first : List (Option (L × L))) (o : Option (List Bool)) (values : List Bool)
+    → IsSome o → IfSome o (IsLawful models meets vars clauses atoms) → IfSome o (λ a. values ≡ map (value_at a) (range_with_len 0 n)) → models ≡ before → vars ≡ own → own ≡ n → clauses ≡ old → atoms ≡ first
+    → IsLawful before meets own old first values
+found_lawful models before meets n vars own clauses old atoms first None values some h k m e f d b = absurd (none_some some)
+  where
+    none_some : false ≡ true → ⊥
+    none_some e = cc
+found_lawful {M} {L} models before meets n vars own clauses old atoms first (Some a) values some h k m e f d b =
+    let same : values ≡ a = k ∙ all_places a n (h.one_each ∙ (e ∙ f)) in
+    let P : List Bool → Type 0 = λ values. IsLawful models meets vars clauses atoms values in
+    let Q : (M → Bool) → Type 0 = λ models. IsLawful models meets vars clauses atoms values in
+    let R : ℕ → Type 0 = λ vars. IsLawful before meets vars clauses atoms values in
+    let S : List (List PLit) → Type 0 = λ clauses. IsLawful before meets own clauses atoms values in
+    let T : List (Option (L × L)) → Type 0 = λ atoms. IsLawful before meets own old atoms values in
+    subst T b (subst S d (subst R e (subst Q m (subst P (sym same) h))))

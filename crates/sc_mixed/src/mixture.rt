@@ -52,6 +52,8 @@ fn answer<T: Theory>(
         T.models T.meets solver.old assignment → ⊥) }
     ensures some { IfOk result (λ found. IfSome found (λ both. AreValues vars solver.old.clauses
         both.0.items)) }
+    ensures lawful { IfOk result (λ found. IfSome found (λ both. IsLawfulFor T.models T.meets
+        solver.old both.0.items)) }
 {
     match solver.search() {
         Answer::Unsat => Ok(None),
@@ -86,6 +88,8 @@ fn last_answer<T: Theory + Drop>(
         T.models T.meets solver assignment → ⊥) }
     ensures some { IfOk result (λ found. IfSome found (λ both. AreValues vars solver.clauses
         both.0.items)) }
+    ensures lawful { IfOk result (λ found. IfSome found (λ both. IsLawfulFor T.models T.meets
+        solver both.0.items)) }
 {
     let mut solver = solver;
     prefer(&mut solver, first);
@@ -149,6 +153,8 @@ pub fn search_mixed(
     ensures none { IfOk result (λ found. found ≡ None → (assignment : List Bool) → IsMixed terms
         fixed.now numbers vars clauses.list atoms assignment → ⊥) }
     ensures some { IfOk result (λ found. IfSome found (IsMixture vars clauses.list)) }
+    ensures mixed { IfOk result (λ found. IfSome found (λ m. IsMixed terms fixed.now numbers vars
+        clauses.list atoms m.values.items)) }
 {
     let theory = procedures(alloc, terms, fixed, numbers, vars as usize)?;
     let solver = Solver::with_clauses(alloc, vars, clauses, atoms, theory)?;
