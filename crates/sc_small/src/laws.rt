@@ -1,0 +1,16 @@
+//! Laws over the definitions alone. Each is the contract of a function that does nothing.
+
+ghost use Rattle.sc_small.specs.Asked.{AllowedIsCounted, ReachIsCounted};
+
+/// A policy, asked about any principal on any record and below any quantifiers, is no larger than
+/// its size over the same schema, and neither is its negation.
+#[tactic(auto, using(crate::proofs::Counted::allowed_is_counted))]
+pub fn allowed_is_counted()
+    ensures { AllowedIsCounted }
+{}
+
+/// That a use of an initialiser reads a record is no larger than it is counted there.
+#[tactic(auto, using(crate::proofs::Counted::reach_is_counted))]
+pub fn reach_is_counted()
+    ensures { ReachIsCounted }
+{}

@@ -1,0 +1,10 @@
+//! How large the formulas of obligations are: definitions and laws, no code.
+//!
+//! | module | holds |
+//! |---|---|
+//! | `laws` | the laws, each the contract of a function that does nothing |
+#![tactic(auto)]
+
+mod laws;
+
+pub use laws::{allowed_is_counted, reach_is_counted};
