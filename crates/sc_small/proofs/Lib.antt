@@ -1,3 +1,6 @@
+pub mod Along
 pub mod Counted
+pub mod InForce
+pub mod Typed
 pub mod Within
 pub mod WithinSets

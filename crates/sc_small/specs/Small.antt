@@ -1,0 +1,62 @@
+-- The formulas of obligations are small where each policy and initialiser is within a limit.
+use Rattle.std.specs.Prelude.{◌≡◌, ◌≤◌, ◌<◌, ◌+◌, ◌*◌, ℕ, suc, true, Option, Some, IfSome, Contains}
+use Rattle.std.specs.List.{AllByRecursion}
+use Rattle.sc_schema.specs.Trees.{Policy}
+use Rattle.sc_schema.specs.Schema.{FieldInfo, ModelInfo, Added, Schema}
+use Rattle.sc_schema.specs.Commands.{Command, create_model, delete_model, add_static, remove_static, add_principal, add_field, remove_field, update_field, weaken_field, update_model, weaken_model}
+use Rattle.sc_schema.specs.Uses.{Use, init_uses_of}
+use Rattle.sc_schema.specs.Script.{Script, schema_at, command_at, count, IsScript}
+use Rattle.sc_duty.specs.declared.duty.Duty.{Duty}
+use Rattle.sc_duty.specs.Duties.{obligations_of, formula_of}
+use Rattle.sc_duty.specs.Sizes.{size, policy_size, init_size, most_size}
+use Rattle.sc_small.specs.Asked.{holds_truth}
+
+-- ---- what is within a limit over a schema
+
+module _ (most : ℕ) (s : Schema) where
+  abbrev pub PolicyIsSmall : Policy → Type 0
+  PolicyIsSmall p = policy_size s p ≤ most
+
+  abbrev pub GivenAreSmall : Option Policy → Option Policy → Type 0
+  GivenAreSmall one other = IfSome one PolicyIsSmall × IfSome other PolicyIsSmall
+
+  abbrev pub FieldIsSmall : FieldInfo → Type 0
+  FieldIsSmall f = PolicyIsSmall f.read × PolicyIsSmall f.write
+
+  abbrev pub ModelIsSmall : ModelInfo → Type 0
+  ModelIsSmall info = PolicyIsSmall info.create × PolicyIsSmall info.delete × AllByRecursion FieldIsSmall info.fields
+
+  -- the policies and the initialiser that the command gives
+  abbrev pub CommandIsSmall : Command → Type 0
+  CommandIsSmall (create_model info) = ModelIsSmall info
+  CommandIsSmall (delete_model m) = Unit {0}
+  CommandIsSmall (add_static info) = Unit {0}
+  CommandIsSmall (remove_static n) = Unit {0}
+  CommandIsSmall (add_principal m) = Unit {0}
+  CommandIsSmall (add_field m f init) = FieldIsSmall f × (init_size s f.ty init ≤ most)
+  CommandIsSmall (remove_field m f) = Unit {0}
+  CommandIsSmall (update_field m f read write) = GivenAreSmall read write
+  CommandIsSmall (weaken_field m f read write reason) = GivenAreSmall read write
+  CommandIsSmall (update_model m create delete) = GivenAreSmall create delete
+  CommandIsSmall (weaken_model m create delete reason) = GivenAreSmall create delete
+
+-- ---- along a script
+
+-- The policies of the first schema are within the limit over it, and what each command gives over the schema after the command.
+pub record IsSmall (most : ℕ) (t : Script) : Type 0 where
+  pub first : AllByRecursion (ModelIsSmall most (schema_at t 0)) (schema_at t 0).models
+  pub commands : (k : ℕ) (c : Command) → command_at t k ≡ Some c → CommandIsSmall most (schema_at t (suc k)) c
+
+-- A field of truth values that start databases have, and that the initialiser of an added field reads, is still there. Where it is gone, a
+-- formula that is counted may compare two of its values as terms, and that of an obligation compares them as truth values, which is larger.
+abbrev pub StaysTruth : Script → Schema → Use → Type 0
+StaysTruth t s u = holds_truth t.start u.model u.field ≡ true → holds_truth s u.model u.field ≡ true
+
+abbrev pub KeepsTruths : Script → Type 0
+KeepsTruths t = (k : ℕ) → k ≤ count t → AllByRecursion (λ (a : Added). AllByRecursion (StaysTruth t (schema_at t k)) (init_uses_of a.init)) (schema_at t k).added
+
+-- An obligation has two quantifiers and a conjunction with two policies, or three and two conjunctions with two policies and what a use reads.
+abbrev pub FormulasAreSmall : Type 0
+FormulasAreSmall =
+    (t : Script) (most : ℕ) → IsScript t → 1 ≤ most → most < most_size → IsSmall most t → KeepsTruths t → (duty : Duty) → Contains (obligations_of t) duty
+    → size (formula_of t duty) ≤ 5 + 3 * most
