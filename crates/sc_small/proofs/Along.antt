@@ -133,9 +133,11 @@ module _ (t : Script) (is : IsScript t) where
       (λ m f init same.
       let here : command_at t k ≡ Some (add_field m f init) = c.1 ∙ ap (λ (x : Command). Some x) same in
       let uses = init-there s m f.ty init (is.commands k (add_field m f init) here).2 in
-      join (λ (a : Added). AllByRecursion (λ (u : Use). u.field < (schema_after s c.0).next_field) (init_uses_of a.init)) s.added ((record { model = m; field = f.number; init = init }) ∷ []) before
-      (weaken (IsThere s) (λ (u : Use). u.field < (schema_after s c.0).next_field)
-      (λ u own. let less = there-below s (is.proper k (omega (arith, within))) u own in omega (arith, less, up)) (init_uses_of init) uses, tt)))
+      join (λ (a : Added). AllByRecursion (λ (u : Use). u.field < (schema_after s c.0).next_field) (init_uses_of a.init)) s.added ((record { model = m; field = f.number; init = init }) ∷ []) before (
+        weaken (IsThere s) (λ (u : Use). u.field < (schema_after s c.0).next_field)
+            (λ u own. let less = there-below s (is.proper k (omega (arith, within))) u own in omega (arith, less, up)) (init_uses_of init) uses,
+        tt,
+      )))
 
   -- ---- what is added later stands for none of the fields that were there
 

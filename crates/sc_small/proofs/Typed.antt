@@ -135,9 +135,9 @@ pub models-together : (P Q R : Policy → Type 0) → ((p : Policy) → P p → 
 models-together P Q R combine models h k =
     together (OfModel P) (OfModel Q) (OfModel R)
     (λ i one two. (
-    combine i.create one.0 two.0,
-    combine i.delete one.1 two.1,
-    together (OfField P) (OfField Q) (OfField R) (λ f of other. (combine f.read of.0 other.0, combine f.write of.1 other.1)) i.fields one.2 two.2,
+      combine i.create one.0 two.0,
+      combine i.delete one.1 two.1,
+      together (OfField P) (OfField Q) (OfField R) (λ f of other. (combine f.read of.0 other.0, combine f.write of.1 other.1)) i.fields one.2 two.2,
     )) models h k
 
 -- each uses fields of the schema
@@ -145,7 +145,7 @@ pub all-there : (s : Schema) → IsTyped s → AllByRecursion (OfModel (λ p. Al
 all-there s typed =
     weaken (IsModel s) (OfModel (λ p. AllByRecursion (IsThere s) (policy_uses_of p)))
     (λ i is. (
-    policy-there s i.number i.create is.create,
-    policy-there s i.number i.delete is.delete,
-    weaken (IsField s i.number) (OfField (λ p. AllByRecursion (IsThere s) (policy_uses_of p))) (λ f of. (policy-there s i.number f.read of.read, policy-there s i.number f.write of.write)) i.fields is.fields,
+      policy-there s i.number i.create is.create,
+      policy-there s i.number i.delete is.delete,
+      weaken (IsField s i.number) (OfField (λ p. AllByRecursion (IsThere s) (policy_uses_of p))) (λ f of. (policy-there s i.number f.read of.read, policy-there s i.number f.write of.write)) i.fields is.fields,
     )) s.models typed

@@ -1,6 +1,7 @@
 //! Laws over the definitions alone. Each is the contract of a function that does nothing.
 
 ghost use Rattle.sc_small.specs.Asked.{AllowedIsCounted, ReachIsCounted};
+ghost use Rattle.sc_small.specs.Small.{FormulasAreSmall};
 
 /// A policy, asked about any principal on any record and below any quantifiers, is no larger than
 /// its size over the same schema, and neither is its negation.
@@ -13,4 +14,12 @@ pub fn allowed_is_counted()
 #[tactic(auto, using(crate::proofs::Counted::reach_is_counted))]
 pub fn reach_is_counted()
     ensures { ReachIsCounted }
+{}
+
+/// The formula of an obligation is at most three times as large as a policy or an initialiser of
+/// the script may be, and five more, if each field of truth values is kept that the initialiser of
+/// an added field reads.
+#[tactic(auto, using(crate::proofs::Obligations::formulas_are_small))]
+pub fn formulas_are_small()
+    ensures { FormulasAreSmall }
 {}
