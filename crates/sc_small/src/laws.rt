@@ -19,7 +19,6 @@ pub fn reach_is_counted()
 /// The formula of an obligation is at most three times as large as a policy or an initialiser of
 /// the script may be, and five more, if each field of truth values is kept that the initialiser of
 /// an added field reads.
-#[tactic(auto, using(crate::proofs::Obligations::formulas_are_small))]
 pub fn formulas_are_small()
     ensures { FormulasAreSmall }
 {}
