@@ -5,3 +5,4 @@ pub mod Obligations
 pub mod Typed
 pub mod Within
 pub mod WithinSets
+pub mod WorkedGrowth
