@@ -3,6 +3,7 @@ pub mod Counted
 pub mod InForce
 pub mod Obligations
 pub mod Typed
+pub mod TypedSpec
 pub mod Within
 pub mod WithinSets
 pub mod WorkedGrowth

@@ -1,3 +1,4 @@
 pub mod Asked
+pub mod Public
 pub mod Small
 pub mod Worked

@@ -2,6 +2,7 @@
 
 ghost use Rattle.sc_small.specs.Asked.{AllowedIsCounted, ReachIsCounted};
 ghost use Rattle.sc_small.specs.Small.{FormulasAreSmall};
+ghost use Rattle.sc_small.specs.Worked.{WorkedGrowth};
 
 /// A policy, asked about any principal on any record and below any quantifiers, is no larger than
 /// its size over the same schema, and neither is its negation.
@@ -21,4 +22,11 @@ pub fn reach_is_counted()
 /// an added field reads.
 pub fn formulas_are_small()
     ensures { FormulasAreSmall }
+{}
+
+/// A script that removes fields of truth values whose values stay in added fields owes a formula
+/// that is larger: an initialiser is counted as 255, and the formula has 1,149 nodes.
+#[tactic(auto, using(crate::proofs::WorkedGrowth::worked_growth))]
+pub fn worked_growth()
+    ensures { WorkedGrowth }
 {}

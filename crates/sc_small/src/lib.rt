@@ -7,4 +7,4 @@
 
 mod laws;
 
-pub use laws::{allowed_is_counted, formulas_are_small, reach_is_counted};
+pub use laws::{allowed_is_counted, formulas_are_small, reach_is_counted, worked_growth};

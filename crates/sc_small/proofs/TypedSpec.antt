@@ -1,0 +1,165 @@
+-- The policies of a specification that is typed with the sizes that are counted are within the limit.
+use Rattle.std.proofs.Common.{◌≡◌, ℕ, suc, ◌+◌, ◌≤◌, Bool, true, false, List, [], ◌∷◌, ◌++◌, length, map, refl, ap, sym, ◌∙◌, subst, arith, cond, append_assoc, append-nil}
+use Rattle.std.specs.Prelude.{Ok, Err, nat_le, if◌then◌else◌}
+use Rattle.std.specs.List.{AllByRecursion, flat_map, zip}
+use Rattle.std.proofs.lemmas.Bool.{leb-true}
+use Rattle.std.proofs.lemmas.List.{length-append}
+use Rattle.sc_tree.specs.declared.named.Named.{Named}
+use Rattle.sc_tree.specs.declared.models.FieldDef.{FieldDef}
+use Rattle.sc_tree.specs.declared.models.ModelDef.{ModelDef}
+use Rattle.sc_tree.specs.declared.models.Spec.{Spec}
+use Rattle.sc_schema.specs.Schema.{FieldInfo, ModelInfo, Schema}
+use Rattle.sc_schema.specs.Commands.{add_static, schema_after}
+use Rattle.sc_typing.specs.declared.type_err.TypeErr.{TypeErr}
+use Rattle.sc_typing.specs.declared.type_err.TypeErr.TheVariants.{Expanded}
+use Rattle.sc_typing.specs.Outcome.{Checked, ◌>>=◌}
+use Rattle.sc_specs.specs.declared.stage.Stage.{Stage}
+use Rattle.sc_specs.specs.declared.stage.Stage.TheVariants.{Types, Policies}
+use Rattle.sc_specs.specs.InTurn.{in_turn, all_hold}
+use Rattle.sc_specs.specs.Models.{policy_at, typed_field, typed_model, with_model, with_models, with_names, with_next_field, with_typed}
+use Rattle.sc_specs.specs.NewNames.{new_static}
+use Rattle.sc_specs.specs.Sizes.{Sizes, most_size, is_small, are_small, field_places, field_sizes, model_places, model_sizes, models_are_small}
+use Rattle.sc_small.proofs.WithinSets.{front, back}
+use Rattle.sc_small.specs.Small.{ModelIsSmall, FieldIsSmall}
+use Rattle.sc_duty.specs.Sizes.{policy_size, init_size}
+use Rattle.sc_specs.specs.Specs.{empty_schema, next_static, resolved_spec, typed_spec, with_static}
+
+-- ---- parts of what is Ok are Ok
+
+pub bound : {A B : Type 0} (o : Checked A) (f : A → Checked B) (b : B) → (o >>= f) ≡ Ok b → (a : A) × (o ≡ Ok a) × (f a ≡ Ok b)
+bound (Ok a) f b e = (a, refl, e)
+bound (Err x) f b e = absurd (cc e)
+
+pub ok-same : {A : Type 0} (a b : A) → ◌≡◌ {A = Checked A} (Ok a) (Ok b) → a ≡ b
+ok-same a b e = cc
+
+-- ---- sizes that are small
+
+size-small : (size at : ℕ) → is_small size at ≡ Ok tt → size ≤ most_size
+size-small size at h =
+    elim (nat_le size most_size) as (λ (z : Bool). nat_le size most_size ≡ z → ◌≡◌ {A = Checked (Unit {0})} (cond z (Ok tt) (Err (Expanded at size))) (Ok tt) → size ≤ most_size) [
+      | true ↦ λ is e. leb-true size most_size is
+      | false ↦ λ is e. absurd (cc e)
+    ] refl h
+
+-- where there is a place for each
+pub all-small : (sizes places : List ℕ) → length sizes ≡ length places → are_small sizes places ≡ Ok tt → AllByRecursion (λ n. n ≤ most_size) sizes
+all-small [] places long e = tt
+all-small (n ∷ sizes) [] long e = absurd (omega (arith, long))
+all-small (n ∷ sizes) (at ∷ places) long e =
+    let (u, one, rest) = bound (is_small n at) (λ _. are_small sizes places) tt e in
+    (size-small n at one, all-small sizes places (omega (arith, long)) rest)
+
+-- ---- models with as many fields as they are written with
+
+abbrev pub AreShaped : List ModelInfo → List ModelDef → Type 0
+AreShaped [] [] = Unit {0}
+AreShaped [] (d ∷ ds) = ⊥
+AreShaped (i ∷ is) [] = ⊥
+AreShaped (i ∷ is) (d ∷ ds) = (length i.fields ≡ length d.fields) × AreShaped is ds
+
+fields-shaped : (stage : Stage) (over : Schema) (m first : ℕ) (defs : List FieldDef) (done out : List FieldInfo) → in_turn (with_next_field stage over m first) done defs ≡ Ok out
+    → length out ≡ length done + length defs
+unfolding with_next_field
+fields-shaped stage over m first [] done out e = let same = ap length (ok-same done out e) in omega (arith, same)
+fields-shaped stage over m first (d ∷ defs) done out e =
+    let (more, goes, rest) = bound (with_next_field stage over m first done d) (λ after. in_turn (with_next_field stage over m first) after defs) out e in
+    let (f, typed, is) = bound (typed_field stage over m (first + length done) d) (λ (f : FieldInfo). Ok (done ++ f ∷ [])) more goes in
+    let one = ap length (ok-same (done ++ f ∷ []) more is) in
+    let two = fields-shaped stage over m first defs more out rest in
+    omega (arith, one, two, length-append done (f ∷ []))
+
+pub model-shaped : (stage : Stage) (over s : Schema) (d : ModelDef) (info : ModelInfo) → typed_model stage over s d ≡ Ok info → length info.fields ≡ length d.fields
+unfolding typed_model
+model-shaped stage over s d info e =
+    let (create, one, e1) = bound (policy_at stage over s.next_model d.create) _ info e in
+    let (delete, other, e2) = bound (policy_at stage over s.next_model d.delete) _ info e1 in
+    let (fields, goes, e3) = bound (in_turn (with_next_field stage over s.next_model s.next_field) [] d.fields) _ info e2 in
+    let is = ap (λ (i : ModelInfo). length i.fields) (ok-same _ info e3) in
+    let long = fields-shaped stage over s.next_model s.next_field d.fields [] fields goes in
+    omega (arith, is, long)
+
+models-shaped : (stage : Stage) (over s : Schema) (defs : List ModelDef) (out : Schema) → in_turn (with_typed stage over) s defs ≡ Ok out
+    → (new : List ModelInfo) × (out.models ≡ s.models ++ new) × AreShaped new defs
+unfolding with_typed
+models-shaped stage over s [] out e = ([], ap (λ (t : Schema). t.models) (sym (ok-same s out e)) ∙ sym (append-nil s.models), tt)
+models-shaped stage over s (d ∷ defs) out e =
+    let (more, goes, rest) = bound (with_typed stage over s d) (λ after. in_turn (with_typed stage over) after defs) out e in
+    let (i, made, is) = bound (typed_model stage over s d) (λ (i : ModelInfo). Ok (with_model s i)) more goes in
+    let there : with_model s i ≡ more = ok-same (with_model s i) more is in
+    let later = models-shaped stage over more defs out rest in (
+      i ∷ later.0,
+      later.1 ∙ ap (λ (t : Schema). t.models ++ later.0) (sym there) ∙ append_assoc s.models (i ∷ []) later.0,
+      (model-shaped stage over s d i made, later.2),
+    )
+
+statics-alone : (names : List Named) (s out : Schema) → s.models ≡ [] → in_turn with_static s names ≡ Ok out → out.models ≡ []
+unfolding with_static
+statics-alone [] s out none e = ap (λ (t : Schema). t.models) (sym (ok-same s out e)) ∙ none
+statics-alone (x ∷ names) s out none e =
+    let (more, goes, rest) = bound (with_static s x) (λ after. in_turn with_static after names) out e in
+    let (u, new, e1) = bound (new_static s x) (λ _. Ok (schema_after s (add_static (next_static s x)))) more goes in
+    let made : schema_after s (add_static (next_static s x)) ≡ more = ok-same _ more e1 in
+    statics-alone names more out (ap (λ (t : Schema). t.models) (sym made) ∙ none) rest
+
+spec-shaped : (spec : Spec) (s : Schema) → resolved_spec spec ≡ Ok s → AreShaped s.models spec.models
+unfolding resolved_spec with_models
+spec-shaped spec s e =
+    let (start, goes, e1) = bound (in_turn with_static empty_schema spec.statics) (λ (t : Schema). with_models t spec.models) s e in
+    let none = statics-alone spec.statics empty_schema start refl goes in
+    let (named, n1, e2) = bound (in_turn with_names start spec.models) _ s e1 in
+    let (known, k1, e3) = bound (in_turn (with_typed Types named) start spec.models) _ s e2 in
+    let made = models-shaped Policies known start spec.models s e3 in
+    subst (λ (models : List ModelInfo). AreShaped models spec.models) (sym (made.1 ∙ ap (λ (models : List ModelInfo). models ++ made.0) none)) made.2
+
+-- ---- the sizes of models
+
+abbrev pub counts : Sizes
+counts = record { policy = policy_size; init = init_size }
+
+module _ (s : Schema) where
+  fields-long : (fields : List FieldInfo) (defs : List FieldDef) → length fields ≡ length defs → length (flat_map (field_sizes counts s) fields) ≡ length (flat_map field_places defs)
+  fields-long [] [] long = refl
+  fields-long [] (d ∷ defs) long = absurd (omega (arith, long))
+  fields-long (f ∷ fields) [] long = absurd (omega (arith, long))
+  fields-long (f ∷ fields) (d ∷ defs) long = let rest = fields-long fields defs (omega (arith, long)) in omega (arith, rest)
+
+  pub model-long : (i : ModelInfo) (d : ModelDef) → length i.fields ≡ length d.fields → length (model_sizes counts s i) ≡ length (model_places d)
+  model-long i d long = let rest = fields-long i.fields d.fields long in omega (arith, rest)
+
+  models-long : (models : List ModelInfo) (defs : List ModelDef) → AreShaped models defs → length (flat_map (model_sizes counts s) models) ≡ length (flat_map model_places defs)
+  models-long [] [] shaped = refl
+  models-long [] (d ∷ defs) shaped = absurd shaped
+  models-long (i ∷ models) [] shaped = absurd shaped
+  models-long (i ∷ models) (d ∷ defs) shaped =
+      let one = model-long i d shaped.0 in
+      let rest = models-long models defs shaped.1 in
+      omega (
+        arith,
+        one,
+        rest,
+        length-append (model_sizes counts s i) (flat_map (model_sizes counts s) models),
+        length-append (model_places d) (flat_map model_places defs),
+      )
+
+  fields-small : (fields : List FieldInfo) → AllByRecursion (λ n. n ≤ most_size) (flat_map (field_sizes counts s) fields) → AllByRecursion (FieldIsSmall most_size s) fields
+  fields-small [] h = tt
+  fields-small (f ∷ fields) h = ((h.0, h.1.0), fields-small fields h.1.1)
+
+  pub model-small : (i : ModelInfo) → AllByRecursion (λ n. n ≤ most_size) (model_sizes counts s i) → ModelIsSmall most_size s i
+  model-small i h = (h.0, h.1.0, fields-small i.fields h.1.1)
+
+  models-small : (models : List ModelInfo) → AllByRecursion (λ n. n ≤ most_size) (flat_map (model_sizes counts s) models) → AllByRecursion (ModelIsSmall most_size s) models
+  models-small [] h = tt
+  models-small (i ∷ models) h = (
+    model-small i (front (λ n. n ≤ most_size) (model_sizes counts s i) (flat_map (model_sizes counts s) models) h),
+    models-small models (back (λ n. n ≤ most_size) (model_sizes counts s i) (flat_map (model_sizes counts s) models) h),
+  )
+
+pub spec-small : (spec : Spec) (s : Schema) → typed_spec counts spec ≡ Ok s → AllByRecursion (ModelIsSmall most_size s) s.models
+unfolding typed_spec models_are_small
+spec-small spec s e =
+    let (found, is, e1) = bound (resolved_spec spec) _ s e in
+    let (u, small, e2) = bound (models_are_small counts found found.models spec.models) _ s e1 in
+    let all = all-small (flat_map (model_sizes counts found) found.models) (flat_map model_places spec.models) (models-long found found.models spec.models (spec-shaped spec found is)) small in
+    subst (λ (t : Schema). AllByRecursion (ModelIsSmall most_size t) t.models) (ok-same found s e2) (models-small found found.models all)
