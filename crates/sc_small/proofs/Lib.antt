@@ -3,6 +3,8 @@ pub mod Counted
 pub mod InForce
 pub mod Obligations
 pub mod Typed
+pub mod TypedObligations
+pub mod TypedScript
 pub mod TypedSpec
 pub mod Within
 pub mod WithinSets

@@ -21,7 +21,7 @@ use Rattle.sc_specs.specs.NewNames.{new_static}
 use Rattle.sc_specs.specs.Sizes.{Sizes, most_size, is_small, are_small, field_places, field_sizes, model_places, model_sizes, models_are_small}
 use Rattle.sc_small.proofs.WithinSets.{front, back}
 use Rattle.sc_small.specs.Small.{ModelIsSmall, FieldIsSmall}
-use Rattle.sc_duty.specs.Sizes.{policy_size, init_size}
+use Rattle.sc_small.specs.Typed.{counted}
 use Rattle.sc_specs.specs.Specs.{empty_schema, next_static, resolved_spec, typed_spec, with_static}
 
 -- ---- parts of what is Ok are Ok
@@ -114,20 +114,17 @@ spec-shaped spec s e =
 
 -- ---- the sizes of models
 
-abbrev pub counts : Sizes
-counts = record { policy = policy_size; init = init_size }
-
 module _ (s : Schema) where
-  fields-long : (fields : List FieldInfo) (defs : List FieldDef) → length fields ≡ length defs → length (flat_map (field_sizes counts s) fields) ≡ length (flat_map field_places defs)
+  fields-long : (fields : List FieldInfo) (defs : List FieldDef) → length fields ≡ length defs → length (flat_map (field_sizes counted s) fields) ≡ length (flat_map field_places defs)
   fields-long [] [] long = refl
   fields-long [] (d ∷ defs) long = absurd (omega (arith, long))
   fields-long (f ∷ fields) [] long = absurd (omega (arith, long))
   fields-long (f ∷ fields) (d ∷ defs) long = let rest = fields-long fields defs (omega (arith, long)) in omega (arith, rest)
 
-  pub model-long : (i : ModelInfo) (d : ModelDef) → length i.fields ≡ length d.fields → length (model_sizes counts s i) ≡ length (model_places d)
+  pub model-long : (i : ModelInfo) (d : ModelDef) → length i.fields ≡ length d.fields → length (model_sizes counted s i) ≡ length (model_places d)
   model-long i d long = let rest = fields-long i.fields d.fields long in omega (arith, rest)
 
-  models-long : (models : List ModelInfo) (defs : List ModelDef) → AreShaped models defs → length (flat_map (model_sizes counts s) models) ≡ length (flat_map model_places defs)
+  models-long : (models : List ModelInfo) (defs : List ModelDef) → AreShaped models defs → length (flat_map (model_sizes counted s) models) ≡ length (flat_map model_places defs)
   models-long [] [] shaped = refl
   models-long [] (d ∷ defs) shaped = absurd shaped
   models-long (i ∷ models) [] shaped = absurd shaped
@@ -138,28 +135,28 @@ module _ (s : Schema) where
         arith,
         one,
         rest,
-        length-append (model_sizes counts s i) (flat_map (model_sizes counts s) models),
+        length-append (model_sizes counted s i) (flat_map (model_sizes counted s) models),
         length-append (model_places d) (flat_map model_places defs),
       )
 
-  fields-small : (fields : List FieldInfo) → AllByRecursion (λ n. n ≤ most_size) (flat_map (field_sizes counts s) fields) → AllByRecursion (FieldIsSmall most_size s) fields
+  fields-small : (fields : List FieldInfo) → AllByRecursion (λ n. n ≤ most_size) (flat_map (field_sizes counted s) fields) → AllByRecursion (FieldIsSmall most_size s) fields
   fields-small [] h = tt
   fields-small (f ∷ fields) h = ((h.0, h.1.0), fields-small fields h.1.1)
 
-  pub model-small : (i : ModelInfo) → AllByRecursion (λ n. n ≤ most_size) (model_sizes counts s i) → ModelIsSmall most_size s i
+  pub model-small : (i : ModelInfo) → AllByRecursion (λ n. n ≤ most_size) (model_sizes counted s i) → ModelIsSmall most_size s i
   model-small i h = (h.0, h.1.0, fields-small i.fields h.1.1)
 
-  models-small : (models : List ModelInfo) → AllByRecursion (λ n. n ≤ most_size) (flat_map (model_sizes counts s) models) → AllByRecursion (ModelIsSmall most_size s) models
+  models-small : (models : List ModelInfo) → AllByRecursion (λ n. n ≤ most_size) (flat_map (model_sizes counted s) models) → AllByRecursion (ModelIsSmall most_size s) models
   models-small [] h = tt
   models-small (i ∷ models) h = (
-    model-small i (front (λ n. n ≤ most_size) (model_sizes counts s i) (flat_map (model_sizes counts s) models) h),
-    models-small models (back (λ n. n ≤ most_size) (model_sizes counts s i) (flat_map (model_sizes counts s) models) h),
+    model-small i (front (λ n. n ≤ most_size) (model_sizes counted s i) (flat_map (model_sizes counted s) models) h),
+    models-small models (back (λ n. n ≤ most_size) (model_sizes counted s i) (flat_map (model_sizes counted s) models) h),
   )
 
-pub spec-small : (spec : Spec) (s : Schema) → typed_spec counts spec ≡ Ok s → AllByRecursion (ModelIsSmall most_size s) s.models
+pub spec-small : (spec : Spec) (s : Schema) → typed_spec counted spec ≡ Ok s → AllByRecursion (ModelIsSmall most_size s) s.models
 unfolding typed_spec models_are_small
 spec-small spec s e =
     let (found, is, e1) = bound (resolved_spec spec) _ s e in
-    let (u, small, e2) = bound (models_are_small counts found found.models spec.models) _ s e1 in
-    let all = all-small (flat_map (model_sizes counts found) found.models) (flat_map model_places spec.models) (models-long found found.models spec.models (spec-shaped spec found is)) small in
+    let (u, small, e2) = bound (models_are_small counted found found.models spec.models) _ s e1 in
+    let all = all-small (flat_map (model_sizes counted found) found.models) (flat_map model_places spec.models) (models-long found found.models spec.models (spec-shaped spec found is)) small in
     subst (λ (t : Schema). AllByRecursion (ModelIsSmall most_size t) t.models) (ok-same found s e2) (models-small found found.models all)

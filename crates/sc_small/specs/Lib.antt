@@ -1,4 +1,5 @@
 pub mod Asked
 pub mod Public
 pub mod Small
+pub mod Typed
 pub mod Worked

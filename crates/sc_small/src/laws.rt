@@ -2,6 +2,7 @@
 
 ghost use Rattle.sc_small.specs.Asked.{AllowedIsCounted, ReachIsCounted};
 ghost use Rattle.sc_small.specs.Small.{FormulasAreSmall};
+ghost use Rattle.sc_small.specs.Typed.{TypedFormulasAreSmall};
 ghost use Rattle.sc_small.specs.Worked.{WorkedGrowth};
 
 /// A policy, asked about any principal on any record and below any quantifiers, is no larger than
@@ -22,6 +23,12 @@ pub fn reach_is_counted()
 /// an added field reads.
 pub fn formulas_are_small()
     ensures { FormulasAreSmall }
+{}
+
+/// So no obligation of a script that is typed over a typed specification, policies and initialisers
+/// being counted, has a formula of more than 60,005 nodes, if it keeps these fields.
+pub fn typed_formulas_are_small()
+    ensures { TypedFormulasAreSmall }
 {}
 
 /// A script that removes fields of truth values whose values stay in added fields owes a formula
