@@ -22,12 +22,13 @@ use Rattle.sc_duty.proofs.Adding.{written-more, written-kept, added-split}
 use Rattle.sc_duty.proofs.Created.{command-there, created-type, first-type, type-split}
 use Rattle.sc_duty.proofs.Failing.{no-element, in-tail}
 use Rattle.sc_duty.proofs.Shown.{AddsNothing, field-there}
+use Rattle.sc_proper.proofs.Lists.{all-append, all-both, all-weaken}
 use Rattle.sc_small.specs.Asked.{holds_truth}
 use Rattle.sc_small.specs.Small.{StaysTruth, KeepsTruths}
 use Rattle.sc_small.proofs.Within.{Within, fields}
 use Rattle.sc_small.proofs.WithinSets.{FieldWithin, UseWithin}
 use Rattle.sc_small.proofs.Counted.{added-within}
-use Rattle.sc_small.proofs.Typed.{join, weaken, together, IsThere, init-there, there-below}
+use Rattle.sc_small.proofs.Typed.{IsThere, init-there, there-below}
 
 abbrev pub field_use : ℕ → ℕ → Use
 field_use m f = record { model = m; field = f }
@@ -57,7 +58,7 @@ module _ (s b : Schema) (Q : Use → Type 0) where
   out-within (a ∷ rest) w o order reads kept m f q =
       out-within rest (with_added s w a) (with_added b o a) order.1 reads.1
       (λ m f q other. added-within s b w o a m f
-      (together (λ (u : Use). IsAdded (a ∷ rest) u → ⊥) Q (UseWithin s b w o) (λ u new q. kept u.model u.field q new) (init_uses_of a.init) order.0 reads.0)
+      (all-both (λ (u : Use). IsAdded (a ∷ rest) u → ⊥) Q (UseWithin s b w o) (λ u new q. kept u.model u.field q new) (init_uses_of a.init) order.0 reads.0)
       (λ differs. kept m f q (λ h. apart m f differs other h))) m f q
     where
       apart : (m f : ℕ) → ((a.model == m) && (a.field == f)) ≡ false → (IsAdded rest (field_use m f) → ⊥) → IsAdded (a ∷ rest) (field_use m f) → ⊥
@@ -118,8 +119,8 @@ module _ (t : Script) (is : IsScript t) where
 
   reads-more : (next more : ℕ) → next ≤ more → (added : List Added) → ReadsBelow next added → ReadsBelow more added
   reads-more next more up added h =
-      weaken (λ (a : Added). AllByRecursion (λ (u : Use). u.field < next) (init_uses_of a.init)) (λ (a : Added). AllByRecursion (λ (u : Use). u.field < more) (init_uses_of a.init))
-      (λ a own. weaken (λ (u : Use). u.field < next) (λ (u : Use). u.field < more) (λ u less. omega (arith, less, up)) (init_uses_of a.init) own) added h
+      all-weaken (λ (a : Added). AllByRecursion (λ (u : Use). u.field < next) (init_uses_of a.init)) (λ (a : Added). AllByRecursion (λ (u : Use). u.field < more) (init_uses_of a.init))
+      (λ a own. all-weaken (λ (u : Use). u.field < next) (λ (u : Use). u.field < more) (λ u less. omega (arith, less, up)) (init_uses_of a.init) own) added h
 
   pub reads-below : (k : ℕ) → k ≤ count t → ReadsBelow (schema_at t k).next_field (schema_at t k).added
   reads-below zero within = subst (λ (added : List Added). ReadsBelow (schema_at t 0).next_field added) (sym is.nothing_added) tt
@@ -133,8 +134,8 @@ module _ (t : Script) (is : IsScript t) where
       (λ m f init same.
       let here : command_at t k ≡ Some (add_field m f init) = c.1 ∙ ap (λ (x : Command). Some x) same in
       let uses = init-there s m f.ty init (is.commands k (add_field m f init) here).2 in
-      join (λ (a : Added). AllByRecursion (λ (u : Use). u.field < (schema_after s c.0).next_field) (init_uses_of a.init)) s.added ((record { model = m; field = f.number; init = init }) ∷ []) before (
-        weaken (IsThere s) (λ (u : Use). u.field < (schema_after s c.0).next_field)
+      all-append (λ (a : Added). AllByRecursion (λ (u : Use). u.field < (schema_after s c.0).next_field) (init_uses_of a.init)) s.added ((record { model = m; field = f.number; init = init }) ∷ []) before (
+        all-weaken (IsThere s) (λ (u : Use). u.field < (schema_after s c.0).next_field)
             (λ u own. let less = there-below s (is.proper k (omega (arith, within))) u own in omega (arith, less, up)) (init_uses_of init) uses,
         tt,
       )))
@@ -258,13 +259,13 @@ module _ (t : Script) (is : IsScript t) (keeps : KeepsTruths t) (j : ℕ) (withi
 
   pub good-reads : AllByRecursion (λ (a : Added). AllByRecursion IsGood (init_uses_of a.init)) now.added
   good-reads =
-      together (λ (a : Added). AllByRecursion (λ (u : Use). u.field < now.next_field) (init_uses_of a.init)) (λ (a : Added). AllByRecursion (StaysTruth t now) (init_uses_of a.init))
+      all-both (λ (a : Added). AllByRecursion (λ (u : Use). u.field < now.next_field) (init_uses_of a.init)) (λ (a : Added). AllByRecursion (StaysTruth t now) (init_uses_of a.init))
       (λ (a : Added). AllByRecursion IsGood (init_uses_of a.init))
-      (λ a below stays. together (λ (u : Use). u.field < now.next_field) (StaysTruth t now) IsGood (λ u less truth. (less, λ other. truth)) (init_uses_of a.init) below stays) now.added
+      (λ a below stays. all-both (λ (u : Use). u.field < now.next_field) (StaysTruth t now) IsGood (λ u less truth. (less, λ other. truth)) (init_uses_of a.init) below stays) now.added
       (reads-below t is j within) (keeps j within)
 
   pub good-there : (uses : List Use) → AllByRecursion (IsThere now) uses → AllByRecursion IsGood uses
-  good-there uses h = weaken (IsThere now) IsGood (λ u own. (there-below now (is.proper j within) u own, λ other. still u own other)) uses h
+  good-there uses h = all-weaken (IsThere now) IsGood (λ u own. (there-below now (is.proper j within) u own, λ other. still u own other)) uses h
     where
       still : (u : Use) → IsThere now u → (IsAdded now.added u → ⊥) → StaysTruth t now u
       still u own other e =
@@ -290,4 +291,4 @@ module _ (t : Script) (is : IsScript t) (keeps : KeepsTruths t) (j : ℕ) (withi
   pub uses-within : (n : ℕ) → j + n ≤ count t → (uses : List Use) → AllByRecursion IsGood uses
       → AllByRecursion (UseWithin t.start now (written_out t.start (schema_at t (j + n)).added) (written_out now now.added)) uses
   uses-within n more uses h =
-      weaken IsGood (UseWithin t.start now (written_out t.start (schema_at t (j + n)).added) (written_out now now.added)) (λ u good. field-within n more u.model u.field good) uses h
+      all-weaken IsGood (UseWithin t.start now (written_out t.start (schema_at t (j + n)).added) (written_out now now.added)) (λ u good. field-within n more u.model u.field good) uses h

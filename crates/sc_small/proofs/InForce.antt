@@ -15,17 +15,10 @@ use Rattle.sc_data.proofs.Finds.{find-among}
 use Rattle.sc_eval.specs.Gain.{policy_at}
 use Rattle.sc_eval.proofs.Kept.{found-field}
 use Rattle.sc_duty.proofs.Created.{command-there}
+use Rattle.sc_proper.proofs.Lists.{all-append, all-filter, all-weaken}
 use Rattle.sc_small.specs.Asked.{policy_uses_of}
 use Rattle.sc_small.specs.Small.{PolicyIsSmall, FieldIsSmall, ModelIsSmall, CommandIsSmall, IsSmall}
-use Rattle.sc_small.proofs.Typed.{join, weaken, IsThere, OfField, OfModel, models-weaken, models-together, all-there}
-
-kept : {X : Type 0} (P : X → Type 0) (keep : X → Bool) (xs : List X) → AllByRecursion P xs → AllByRecursion P (filter keep xs)
-kept P keep [] h = tt
-kept {X} P keep (x ∷ xs) h =
-    elim (keep x) as (λ (z : Bool). AllByRecursion P (cond z (x ∷ filter keep xs) (filter keep xs))) [
-      | true ↦ (h.0, kept P keep xs h.1)
-      | false ↦ kept P keep xs h.1
-    ]
+use Rattle.sc_small.proofs.Typed.{IsThere, OfField, OfModel, models-weaken, models-together, all-there}
 
 -- ---- policies that a command keeps or gives
 
@@ -41,7 +34,7 @@ module _ (P S : Policy → Type 0) where
   given-is (Some q) p new old = inr new
 
   new-fields : (fields : List FieldInfo) → AllByRecursion (λ (f : FieldInfo). S f.read × S f.write) fields → Fields fields
-  new-fields fields h = weaken (λ (f : FieldInfo). S f.read × S f.write) (OfField Either) (λ f own. (inr own.0, inr own.1)) fields h
+  new-fields fields h = all-weaken (λ (f : FieldInfo). S f.read × S f.write) (OfField Either) (λ f own. (inr own.0, inr own.1)) fields h
 
   models-changed : (m : ℕ) (change : ModelInfo → ModelInfo) → ((i : ModelInfo) → OfModel Either i → OfModel Either (change i)) → (models : List ModelInfo)
       → AllByRecursion (OfModel Either) models → AllByRecursion (OfModel Either) (change_model m change models)
@@ -87,15 +80,15 @@ module _ (most : ℕ) (s after : Schema) (P : Policy → Type 0) where
           (λ i own. (given-is P Small create i.create one own.0, given-is P Small delete i.delete two own.1, own.2)) s.models old
 
       by : (c : Command) → CommandIsSmall most after c → AllByRecursion (OfModel Now) s.models → AllByRecursion (OfModel Now) (schema_after s c).models
-      by (create_model info) small old = join (OfModel Now) s.models (info ∷ []) old ((inr small.0, inr small.1, new-fields P Small info.fields small.2), tt)
-      by (delete_model m) small old = kept (OfModel Now) (λ (info : ModelInfo). not (info.number == m)) s.models old
+      by (create_model info) small old = all-append (OfModel Now) s.models (info ∷ []) old ((inr small.0, inr small.1, new-fields P Small info.fields small.2), tt)
+      by (delete_model m) small old = all-filter (OfModel Now) (OfModel Now) (λ (info : ModelInfo). not (info.number == m)) (λ i stays own. own) s.models old
       by (add_static info) small old = old
       by (remove_static n) small old = old
       by (add_principal m) small old = models-changed P Small m (λ (info : ModelInfo). record info { principal = true }) (λ i own. own) s.models old
       by (add_field m f init) small old =
-          models-changed P Small m (with_field f) (λ i own. (own.0, own.1, join (OfField Now) i.fields (f ∷ []) own.2 ((inr small.0.0, inr small.0.1), tt))) s.models old
+          models-changed P Small m (with_field f) (λ i own. (own.0, own.1, all-append (OfField Now) i.fields (f ∷ []) own.2 ((inr small.0.0, inr small.0.1), tt))) s.models old
       by (remove_field m f) small old =
-          models-changed P Small m (without_field f) (λ i own. (own.0, own.1, kept (OfField Now) (λ (g : FieldInfo). not (g.number == f)) i.fields own.2)) s.models old
+          models-changed P Small m (without_field f) (λ i own. (own.0, own.1, all-filter (OfField Now) (OfField Now) (λ (g : FieldInfo). not (g.number == f)) (λ g stays own. own) i.fields own.2)) s.models old
       by (update_field m f read write) small old = policies m f read write small.0 small.1 old
       by (weaken_field m f read write reason) small old = policies m f read write small.0 small.1 old
       by (update_model m create delete) small old = rights m create delete small.0 small.1 old

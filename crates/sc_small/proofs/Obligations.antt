@@ -27,10 +27,11 @@ use Rattle.sc_duty.specs.Gains.{IsGainDuty}
 use Rattle.sc_duty.specs.Listed.{IsUseDuty, IsObligation}
 use Rattle.sc_duty.specs.Sizes.{term_size, size, row, other, policy_size_over, policy_size, result_size, init_size_over, init_size, most_size}
 use Rattle.sc_duty.proofs.Listed.{from-list}
+use Rattle.sc_proper.proofs.Lists.{all-back}
 use Rattle.sc_small.specs.Asked.{IsOne, policy_uses_of}
 use Rattle.sc_small.specs.Small.{PolicyIsSmall, CommandIsSmall, IsSmall, KeepsTruths, FormulasAreSmall}
 use Rattle.sc_small.proofs.Within.{constant-less}
-use Rattle.sc_small.proofs.WithinSets.{UseWithin, back, allowed-less, init_reach-less}
+use Rattle.sc_small.proofs.WithinSets.{UseWithin, allowed-less, init_reach-less}
 use Rattle.sc_small.proofs.Counted.{one-who}
 use Rattle.sc_small.proofs.Along.{IsGood, good-reads, good-there, uses-within}
 use Rattle.sc_small.proofs.InForce.{WasCounted, in-force}
@@ -132,7 +133,7 @@ module _ (t : Script) (is : IsScript t) (most : ℕ) (some : 1 ≤ most) (few : 
       let a : Added = record { model = m; field = f.number; init = init } in
       let Good : Added → Type 0 = λ a. AllByRecursion (IsGood t is keeps j at) (init_uses_of a.init) in
       let reads : AllByRecursion Good ((schema_at t k).added ++ a ∷ []) = subst (λ (u : Schema). AllByRecursion Good u.added) (is.steps k (add_field m f init) here) (good-reads t is keeps j at) in
-      let own : AllByRecursion (IsGood t is keeps j at) (init_uses_of init) = (back Good (schema_at t k).added (a ∷ []) reads).0 in
+      let own : AllByRecursion (IsGood t is keeps j at) (init_uses_of init) = (all-back Good (schema_at t k).added (a ∷ []) reads).0 in
       let same : j + 0 ≡ j = omega arith in
       let uses = uses-within t is keeps j at 0 (omega (arith, at)) (init_uses_of init) own in
       let less-at = init_reach-less t.start s (written_out t.start (schema_at t (j + 0)).added) (written_out s s.added) y other (omega (arith, one)) init uses r row (omega (arith, two)) i above 2 in

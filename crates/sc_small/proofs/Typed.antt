@@ -14,21 +14,8 @@ use Rattle.sc_schema.specs.Uses.{Use, in_order_of_text, uses_of, set_uses_of, it
 use Rattle.sc_schema.specs.Proper.{IsProper}
 use Rattle.sc_eval.proofs.Kept.{field-below}
 use Rattle.sc_duty.proofs.Shown.{has-field}
+use Rattle.sc_proper.proofs.Lists.{all-append, all-both, all-weaken}
 use Rattle.sc_small.specs.Asked.{policy_uses_of}
-
--- ---- lists
-
-pub join : {X : Type 0} (P : X → Type 0) (xs ys : List X) → AllByRecursion P xs → AllByRecursion P ys → AllByRecursion P (xs ++ ys)
-join P [] ys h k = k
-join P (x ∷ xs) ys h k = (h.0, join P xs ys h.1 k)
-
-pub weaken : {X : Type 0} (P Q : X → Type 0) → ((x : X) → P x → Q x) → (xs : List X) → AllByRecursion P xs → AllByRecursion Q xs
-weaken P Q more [] h = tt
-weaken P Q more (x ∷ xs) h = (more x h.0, weaken P Q more xs h.1)
-
-pub together : {X : Type 0} (P Q R : X → Type 0) → ((x : X) → P x → Q x → R x) → (xs : List X) → AllByRecursion P xs → AllByRecursion Q xs → AllByRecursion R xs
-together P Q R combine [] h k = tt
-together P Q R combine (x ∷ xs) h k = (combine x h.0 k.0, together P Q R combine xs h.1 k.1)
 
 -- ---- uses
 
@@ -41,12 +28,12 @@ module _ (s : Schema) where
   there m f t h = ap is_some h
 
   join-sides : (op : CmpOp) (xs ys : List Use) → AllByRecursion IsThere xs → AllByRecursion IsThere ys → AllByRecursion IsThere (in_order_of_text op xs ys)
-  join-sides Eq xs ys h k = join IsThere xs ys h k
-  join-sides Ne xs ys h k = join IsThere xs ys h k
-  join-sides Lt xs ys h k = join IsThere xs ys h k
-  join-sides Le xs ys h k = join IsThere ys xs k h
-  join-sides Gt xs ys h k = join IsThere ys xs k h
-  join-sides Ge xs ys h k = join IsThere xs ys h k
+  join-sides Eq xs ys h k = all-append IsThere xs ys h k
+  join-sides Ne xs ys h k = all-append IsThere xs ys h k
+  join-sides Lt xs ys h k = all-append IsThere xs ys h k
+  join-sides Le xs ys h k = all-append IsThere ys xs k h
+  join-sides Gt xs ys h k = all-append IsThere ys xs k h
+  join-sides Ge xs ys h k = all-append IsThere xs ys h k
 
   mutual
     pub expr-there : (e : Expr) (scope : Scope) (t : TTy) → IsExpr s scope t e → AllByRecursion IsThere (uses_of e)
@@ -56,48 +43,48 @@ module _ (s : Schema) where
     expr-there (var depth name) scope t h = tt
     expr-there nothing scope t h = tt
     expr-there (just e) scope t h = expr-there e scope (Plain h.0) h.2
-    expr-there (get e m f) scope t h = join IsThere (uses_of e) ((record { model = m; field = f }) ∷ []) (expr-there e scope (Plain (base.Id m)) h.1) (there m f t h.0, tt)
-    expr-there (equal c d op) scope t h = join IsThere (uses_of c) (uses_of d) (expr-there c scope (Plain h.1.0) h.1.2) (expr-there d scope (Plain h.1.0) h.1.3)
-    expr-there (iff c d op) scope t h = join IsThere (uses_of c) (uses_of d) (expr-there c scope (Plain base.Bool) h.1) (expr-there d scope (Plain base.Bool) h.2)
+    expr-there (get e m f) scope t h = all-append IsThere (uses_of e) ((record { model = m; field = f }) ∷ []) (expr-there e scope (Plain (base.Id m)) h.1) (there m f t h.0, tt)
+    expr-there (equal c d op) scope t h = all-append IsThere (uses_of c) (uses_of d) (expr-there c scope (Plain h.1.0) h.1.2) (expr-there d scope (Plain h.1.0) h.1.3)
+    expr-there (iff c d op) scope t h = all-append IsThere (uses_of c) (uses_of d) (expr-there c scope (Plain base.Bool) h.1) (expr-there d scope (Plain base.Bool) h.2)
     expr-there (less c d op) scope t h = join-sides op (uses_of c) (uses_of d) (expr-there c scope (Plain base.Int) h.1) (expr-there d scope (Plain base.Int) h.2)
-    expr-there (within e m set) scope t h = join IsThere (uses_of e) (set_uses_of set) (expr-there e scope (Plain (base.Id m)) h.1) (set-there set scope (records m) h.2)
+    expr-there (within e m set) scope t h = all-append IsThere (uses_of e) (set_uses_of set) (expr-there e scope (Plain (base.Id m)) h.1) (set-there set scope (records m) h.2)
     expr-there (negation e) scope t h = expr-there e scope (Plain base.Bool) h.1
-    expr-there (both c d) scope t h = join IsThere (uses_of c) (uses_of d) (expr-there c scope (Plain base.Bool) h.1) (expr-there d scope (Plain base.Bool) h.2)
-    expr-there (either c d) scope t h = join IsThere (uses_of c) (uses_of d) (expr-there c scope (Plain base.Bool) h.1) (expr-there d scope (Plain base.Bool) h.2)
+    expr-there (both c d) scope t h = all-append IsThere (uses_of c) (uses_of d) (expr-there c scope (Plain base.Bool) h.1) (expr-there d scope (Plain base.Bool) h.2)
+    expr-there (either c d) scope t h = all-append IsThere (uses_of c) (uses_of d) (expr-there c scope (Plain base.Bool) h.1) (expr-there d scope (Plain base.Bool) h.2)
     expr-there (if_expr c d e) scope t h =
-        join IsThere (uses_of c ++ uses_of d) (uses_of e) (join IsThere (uses_of c) (uses_of d) (expr-there c scope (Plain base.Bool) h.0) (expr-there d scope t h.1)) (expr-there e scope t h.2)
+        all-append IsThere (uses_of c ++ uses_of d) (uses_of e) (all-append IsThere (uses_of c) (uses_of d) (expr-there c scope (Plain base.Bool) h.0) (expr-there d scope t h.1)) (expr-there e scope t h.2)
     expr-there (match_expr e c name d) scope t h =
-        join IsThere (uses_of e ++ uses_of c) (uses_of d) (join IsThere (uses_of e) (uses_of c) (expr-there e scope (Opt h.0) h.1) (expr-there c scope t h.2))
+        all-append IsThere (uses_of e ++ uses_of c) (uses_of d) (all-append IsThere (uses_of e) (uses_of c) (expr-there e scope (Opt h.0) h.1) (expr-there c scope t h.2))
         (expr-there d (scope ++ Plain h.0 ∷ []) t h.3)
 
     pub set-there : (set : SetExpr) (scope : Scope) (w : Content) → IsSet s scope w set → AllByRecursion IsThere (set_uses_of set)
     set-there everyone scope w h = tt
     set-there nobody scope w h = tt
     set-there (listed items) scope w h = items-there items scope w h
-    set-there (union c d) scope w h = join IsThere (set_uses_of c) (set_uses_of d) (set-there c scope w h.0) (set-there d scope w h.1)
-    set-there (minus c d) scope w h = join IsThere (set_uses_of c) (set_uses_of d) (set-there c scope w h.0) (set-there d scope w h.1)
+    set-there (union c d) scope w h = all-append IsThere (set_uses_of c) (set_uses_of d) (set-there c scope w h.0) (set-there d scope w h.1)
+    set-there (minus c d) scope w h = all-append IsThere (set_uses_of c) (set_uses_of d) (set-there c scope w h.0) (set-there d scope w h.1)
     set-there (find m filters) scope w h = filters-there filters scope m h.2
     set-there (path m e) scope w h = expr-there e scope (Set m) h.1
     set-there (mapped set n name m e) scope w h =
-        join IsThere (set_uses_of set) (uses_of e) (set-there set scope (records n) h.2) (expr-there e (scope ++ Plain (base.Id n) ∷ []) (Plain (base.Id m)) h.3)
+        all-append IsThere (set_uses_of set) (uses_of e) (set-there set scope (records n) h.2) (expr-there e (scope ++ Plain (base.Id n) ∷ []) (Plain (base.Id m)) h.3)
     set-there (flat_mapped set n name body) scope w h =
-        join IsThere (set_uses_of set) (set_uses_of body) (set-there set scope (records n) h.1) (set-there body (scope ++ Plain (base.Id n) ∷ []) w h.2)
+        all-append IsThere (set_uses_of set) (set_uses_of body) (set-there set scope (records n) h.1) (set-there body (scope ++ Plain (base.Id n) ∷ []) w h.2)
     set-there (if_set c d e) scope w h =
-        join IsThere (uses_of c ++ set_uses_of d) (set_uses_of e) (join IsThere (uses_of c) (set_uses_of d) (expr-there c scope (Plain base.Bool) h.0) (set-there d scope w h.1))
+        all-append IsThere (uses_of c ++ set_uses_of d) (set_uses_of e) (all-append IsThere (uses_of c) (set_uses_of d) (expr-there c scope (Plain base.Bool) h.0) (set-there d scope w h.1))
         (set-there e scope w h.2)
     set-there (match_set e c name d) scope w h =
-        join IsThere (uses_of e ++ set_uses_of c) (set_uses_of d) (join IsThere (uses_of e) (set_uses_of c) (expr-there e scope (Opt h.0) h.1) (set-there c scope w h.2))
+        all-append IsThere (uses_of e ++ set_uses_of c) (set_uses_of d) (all-append IsThere (uses_of e) (set_uses_of c) (expr-there e scope (Opt h.0) h.1) (set-there c scope w h.2))
         (set-there d (scope ++ Plain h.0 ∷ []) w h.3)
 
     items-there : (items : Items) (scope : Scope) (w : Content) → AreItems s scope w items → AllByRecursion IsThere (item_uses_of items)
     items-there no_items scope w h = tt
     items-there (static_item n items) scope w h = items-there items scope w h.2
-    items-there (record_item m e items) scope w h = join IsThere (uses_of e) (item_uses_of items) (expr-there e scope (Plain (base.Id m)) h.1) (items-there items scope w h.2)
+    items-there (record_item m e items) scope w h = all-append IsThere (uses_of e) (item_uses_of items) (expr-there e scope (Plain (base.Id m)) h.1) (items-there items scope w h.2)
 
     filters-there : (filters : Filters) (scope : Scope) (m : ℕ) → AreFilters s scope m filters → AllByRecursion IsThere (filter_uses_of m filters)
     filters-there no_filters scope m h = tt
     filters-there (filter_and f op e filters) scope m h =
-        join IsThere (uses_of e) ((record { model = m; field = f }) ∷ filter_uses_of m filters) (expr-there e scope h.0.1 h.0.4) (there m f h.0.0 h.0.2, filters-there filters scope m h.1)
+        all-append IsThere (uses_of e) ((record { model = m; field = f }) ∷ filter_uses_of m filters) (expr-there e scope h.0.1 h.0.4) (there m f h.0.0 h.0.2, filters-there filters scope m h.1)
 
   pub policy-there : (m : ℕ) (p : Policy) → IsPolicy s m p → AllByRecursion IsThere (policy_uses_of p)
   policy-there m to_all h = tt
@@ -127,25 +114,25 @@ module _ (P : Policy → Type 0) where
 
 pub models-weaken : (P Q : Policy → Type 0) → ((p : Policy) → P p → Q p) → (models : List ModelInfo) → AllByRecursion (OfModel P) models → AllByRecursion (OfModel Q) models
 models-weaken P Q more models h =
-    weaken (OfModel P) (OfModel Q)
-    (λ i own. (more i.create own.0, more i.delete own.1, weaken (OfField P) (OfField Q) (λ f of. (more f.read of.0, more f.write of.1)) i.fields own.2)) models h
+    all-weaken (OfModel P) (OfModel Q)
+    (λ i own. (more i.create own.0, more i.delete own.1, all-weaken (OfField P) (OfField Q) (λ f of. (more f.read of.0, more f.write of.1)) i.fields own.2)) models h
 
 pub models-together : (P Q R : Policy → Type 0) → ((p : Policy) → P p → Q p → R p) → (models : List ModelInfo) → AllByRecursion (OfModel P) models → AllByRecursion (OfModel Q) models
     → AllByRecursion (OfModel R) models
 models-together P Q R combine models h k =
-    together (OfModel P) (OfModel Q) (OfModel R)
+    all-both (OfModel P) (OfModel Q) (OfModel R)
     (λ i one two. (
       combine i.create one.0 two.0,
       combine i.delete one.1 two.1,
-      together (OfField P) (OfField Q) (OfField R) (λ f of other. (combine f.read of.0 other.0, combine f.write of.1 other.1)) i.fields one.2 two.2,
+      all-both (OfField P) (OfField Q) (OfField R) (λ f of other. (combine f.read of.0 other.0, combine f.write of.1 other.1)) i.fields one.2 two.2,
     )) models h k
 
 -- each uses fields of the schema
 pub all-there : (s : Schema) → IsTyped s → AllByRecursion (OfModel (λ p. AllByRecursion (IsThere s) (policy_uses_of p))) s.models
 all-there s typed =
-    weaken (IsModel s) (OfModel (λ p. AllByRecursion (IsThere s) (policy_uses_of p)))
+    all-weaken (IsModel s) (OfModel (λ p. AllByRecursion (IsThere s) (policy_uses_of p)))
     (λ i is. (
       policy-there s i.number i.create is.create,
       policy-there s i.number i.delete is.delete,
-      weaken (IsField s i.number) (OfField (λ p. AllByRecursion (IsThere s) (policy_uses_of p))) (λ f of. (policy-there s i.number f.read of.read, policy-there s i.number f.write of.write)) i.fields is.fields,
+      all-weaken (IsField s i.number) (OfField (λ p. AllByRecursion (IsThere s) (policy_uses_of p))) (λ f of. (policy-there s i.number f.read of.read, policy-there s i.number f.write of.write)) i.fields is.fields,
     )) s.models typed

@@ -29,7 +29,8 @@ use Rattle.sc_commands.specs.Resolved.{added_field, added_static, created, field
 use Rattle.sc_commands.specs.Scripts.{Steps, Stepped, no_steps, one_step, script_from, steps, then_steps, typed_script, whole_script}
 use Rattle.sc_small.specs.Small.{PolicyIsSmall, GivenAreSmall, CommandIsSmall}
 use Rattle.sc_small.specs.Typed.{counted}
-use Rattle.sc_small.proofs.TypedSpec.{bound, ok-same, all-small, model-shaped, model-long, model-small}
+use Rattle.sc_proper.proofs.Resolves.{bound, ok-same}
+use Rattle.sc_small.proofs.TypedSpec.{all-small, model-shaped, model-long, model-small}
 
 -- ---- policies that are given
 

@@ -19,19 +19,11 @@ use Rattle.sc_specs.specs.InTurn.{in_turn, all_hold}
 use Rattle.sc_specs.specs.Models.{policy_at, typed_field, typed_model, with_model, with_models, with_names, with_next_field, with_typed}
 use Rattle.sc_specs.specs.NewNames.{new_static}
 use Rattle.sc_specs.specs.Sizes.{Sizes, most_size, is_small, are_small, field_places, field_sizes, model_places, model_sizes, models_are_small}
-use Rattle.sc_small.proofs.WithinSets.{front, back}
+use Rattle.sc_proper.proofs.Lists.{all-front, all-back}
+use Rattle.sc_proper.proofs.Resolves.{bound, ok-same}
 use Rattle.sc_small.specs.Small.{ModelIsSmall, FieldIsSmall}
 use Rattle.sc_small.specs.Typed.{counted}
 use Rattle.sc_specs.specs.Specs.{empty_schema, next_static, resolved_spec, typed_spec, with_static}
-
--- ---- parts of what is Ok are Ok
-
-pub bound : {A B : Type 0} (o : Checked A) (f : A → Checked B) (b : B) → (o >>= f) ≡ Ok b → (a : A) × (o ≡ Ok a) × (f a ≡ Ok b)
-bound (Ok a) f b e = (a, refl, e)
-bound (Err x) f b e = absurd (cc e)
-
-pub ok-same : {A : Type 0} (a b : A) → ◌≡◌ {A = Checked A} (Ok a) (Ok b) → a ≡ b
-ok-same a b e = cc
 
 -- ---- sizes that are small
 
@@ -149,8 +141,8 @@ module _ (s : Schema) where
   models-small : (models : List ModelInfo) → AllByRecursion (λ n. n ≤ most_size) (flat_map (model_sizes counted s) models) → AllByRecursion (ModelIsSmall most_size s) models
   models-small [] h = tt
   models-small (i ∷ models) h = (
-    model-small i (front (λ n. n ≤ most_size) (model_sizes counted s i) (flat_map (model_sizes counted s) models) h),
-    models-small models (back (λ n. n ≤ most_size) (model_sizes counted s i) (flat_map (model_sizes counted s) models) h),
+    model-small i (all-front (λ n. n ≤ most_size) (model_sizes counted s i) (flat_map (model_sizes counted s) models) h),
+    models-small models (all-back (λ n. n ≤ most_size) (model_sizes counted s i) (flat_map (model_sizes counted s) models) h),
   )
 
 pub spec-small : (spec : Spec) (s : Schema) → typed_spec counted spec ≡ Ok s → AllByRecursion (ModelIsSmall most_size s) s.models

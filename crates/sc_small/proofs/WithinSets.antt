@@ -18,36 +18,29 @@ use Rattle.sc_duty.specs.Cases.{Condition, constant, atom, and_if, all_if, any_i
 use Rattle.sc_duty.specs.Formulas.{Scene, Who, static, record_at, of_each_kind, of_model, is_static, Written, field_cases, passes, next_variable, cases_of, is_in, items_in, filters_at, is_allowed, init_cases, with_added}
 use Rattle.sc_duty.specs.Reach.{in_parts, sides, end_is_none, end_is_some, reach, set_reach, items_reach, filters_reach, init_reach}
 use Rattle.sc_duty.specs.Sizes.{term_size, size}
+use Rattle.sc_proper.proofs.Lists.{all-front, all-back}
 use Rattle.sc_small.specs.Asked.{policy_uses_of}
 use Rattle.sc_small.proofs.Within.{some-size, constant-less, atom-less, and-less, exists-less, test-less, LessAll, all-less, any-less, LessCondition, LessMembers, same-less, LessWho, is_static as a_static, same_model, any_model, each_model, of_model-less, Within, terms, fields, truths, sets, nones, somes, choices, ends-less, continued-within, at_terms-less, term-within, option-within, option-less, condition-less, has-less, same_term-less, less_term-less, some-within, compared-less, LessScene, scene-and, scene-at}
 
 -- ---- uses
 
-pub front : {X : Type 0} (P : X → Type 0) (xs ys : List X) → AllByRecursion P (xs ++ ys) → AllByRecursion P xs
-front P [] ys h = tt
-front P (x ∷ xs) ys h = (h.0, front P xs ys h.1)
-
-pub back : {X : Type 0} (P : X → Type 0) (xs ys : List X) → AllByRecursion P (xs ++ ys) → AllByRecursion P ys
-back P [] ys h = h
-back P (x ∷ xs) ys h = back P xs ys h.1
-
 pub sides-of : (P : Use → Type 0) (op : CmpOp) (xs ys : List Use) → AllByRecursion P (in_order_of_text op xs ys) → AllByRecursion P xs × AllByRecursion P ys
-sides-of P Eq xs ys h = (front P xs ys h, back P xs ys h)
-sides-of P Ne xs ys h = (front P xs ys h, back P xs ys h)
-sides-of P Lt xs ys h = (front P xs ys h, back P xs ys h)
-sides-of P Le xs ys h = (back P ys xs h, front P ys xs h)
-sides-of P Gt xs ys h = (back P ys xs h, front P ys xs h)
-sides-of P Ge xs ys h = (front P xs ys h, back P xs ys h)
+sides-of P Eq xs ys h = (all-front P xs ys h, all-back P xs ys h)
+sides-of P Ne xs ys h = (all-front P xs ys h, all-back P xs ys h)
+sides-of P Lt xs ys h = (all-front P xs ys h, all-back P xs ys h)
+sides-of P Le xs ys h = (all-back P ys xs h, all-front P ys xs h)
+sides-of P Gt xs ys h = (all-back P ys xs h, all-front P ys xs h)
+sides-of P Ge xs ys h = (all-front P xs ys h, all-back P xs ys h)
 
 -- of three parts
 pub first : (P : Use → Type 0) (xs ys zs : List Use) → AllByRecursion P (xs ++ ys ++ zs) → AllByRecursion P xs
-first P xs ys zs h = front P xs ys (front P (xs ++ ys) zs h)
+first P xs ys zs h = all-front P xs ys (all-front P (xs ++ ys) zs h)
 
 pub second : (P : Use → Type 0) (xs ys zs : List Use) → AllByRecursion P (xs ++ ys ++ zs) → AllByRecursion P ys
-second P xs ys zs h = back P xs ys (front P (xs ++ ys) zs h)
+second P xs ys zs h = all-back P xs ys (all-front P (xs ++ ys) zs h)
 
 pub third : (P : Use → Type 0) (xs ys zs : List Use) → AllByRecursion P (xs ++ ys ++ zs) → AllByRecursion P zs
-third P xs ys zs h = back P (xs ++ ys) zs h
+third P xs ys zs h = all-back P (xs ++ ys) zs h
 
 -- ---- parts of a list of uses
 
@@ -94,15 +87,15 @@ module _ (s b : Schema) (w o : Written) where
     cases-within (just e) xs ys h r = some-within s b (cases_of s w xs e) (cases_of b o ys e) (cases-within e xs ys h r)
     cases-within (get e m f) xs ys h r =
         continued-within s b (of_term s none (field_cases s w m f)) (of_term b none (field_cases b o m f))
-        (term-within s b (field_cases s w m f) (field_cases b o m f) (back UseWithin (uses_of e) ((record { model = m; field = f }) ∷ []) r).0)
-        (cases_of s w xs e) (cases_of b o ys e) (cases-within e xs ys h (front UseWithin (uses_of e) ((record { model = m; field = f }) ∷ []) r))
+        (term-within s b (field_cases s w m f) (field_cases b o m f) (all-back UseWithin (uses_of e) ((record { model = m; field = f }) ∷ []) r).0)
+        (cases_of s w xs e) (cases_of b o ys e) (cases-within e xs ys h (all-front UseWithin (uses_of e) ((record { model = m; field = f }) ∷ []) r))
     cases-within (equal c d op) xs ys h r =
         truths (same_term s (cases_of s w xs c) (cases_of s w xs d)) (same_term b (cases_of b o ys c) (cases_of b o ys d))
         (same_term-less s b (cases_of s w xs c) (cases_of b o ys c) (cases_of s w xs d) (cases_of b o ys d)
-        (cases-within c xs ys h (front UseWithin (uses_of c) (uses_of d) r)) (cases-within d xs ys h (back UseWithin (uses_of c) (uses_of d) r)))
+        (cases-within c xs ys h (all-front UseWithin (uses_of c) (uses_of d) r)) (cases-within d xs ys h (all-back UseWithin (uses_of c) (uses_of d) r)))
     cases-within (iff c d op) xs ys h r =
-        let one = condition-less s b (cases_of s w xs c) (cases_of b o ys c) (cases-within c xs ys h (front UseWithin (uses_of c) (uses_of d) r)) in
-        let two = condition-less s b (cases_of s w xs d) (cases_of b o ys d) (cases-within d xs ys h (back UseWithin (uses_of c) (uses_of d) r)) in
+        let one = condition-less s b (cases_of s w xs c) (cases_of b o ys c) (cases-within c xs ys h (all-front UseWithin (uses_of c) (uses_of d) r)) in
+        let two = condition-less s b (cases_of s w xs d) (cases_of b o ys d) (cases-within d xs ys h (all-back UseWithin (uses_of c) (uses_of d) r)) in
         truths (same_condition (condition_of s (cases_of s w xs c)) (condition_of s (cases_of s w xs d)))
         (same_condition (condition_of b (cases_of b o ys c)) (condition_of b (cases_of b o ys d)))
         (same-less (condition_of s (cases_of s w xs c)) (condition_of b (cases_of b o ys c)) (condition_of s (cases_of s w xs d)) (condition_of b (cases_of b o ys d)) one two)
@@ -111,8 +104,8 @@ module _ (s b : Schema) (w o : Written) where
         truths (less_term s (cases_of s w xs c) (cases_of s w xs d)) (less_term b (cases_of b o ys c) (cases_of b o ys d))
         (less_term-less s b (cases_of s w xs c) (cases_of b o ys c) (cases_of s w xs d) (cases_of b o ys d) (cases-within c xs ys h both.0) (cases-within d xs ys h both.1))
     cases-within (within e m set) xs ys h r =
-        let inner = cases-within e xs ys h (front UseWithin (uses_of e) (set_uses_of set) r) in
-        let uses = back UseWithin (uses_of e) (set_uses_of set) r in
+        let inner = cases-within e xs ys h (all-front UseWithin (uses_of e) (set_uses_of set) r) in
+        let uses = all-back UseWithin (uses_of e) (set_uses_of set) r in
         truths (λ sign above. at_terms s above (λ t. is_in s w xs set (record_at m t) sign above) (cases_of s w xs e))
         (λ sign above. at_terms b above (λ t. is_in b o ys set (record_at m t) sign above) (cases_of b o ys e))
         (λ sign a sign' a'.
@@ -123,14 +116,14 @@ module _ (s b : Schema) (w o : Written) where
         truths (λ sign above. condition_of s (cases_of s w xs e) (not sign) above) (λ sign above. condition_of b (cases_of b o ys e) (not sign) above)
         (λ sign a sign' a'. inner (not sign) a (not sign') a')
     cases-within (both c d) xs ys h r =
-        let one = condition-less s b (cases_of s w xs c) (cases_of b o ys c) (cases-within c xs ys h (front UseWithin (uses_of c) (uses_of d) r)) in
-        let two = condition-less s b (cases_of s w xs d) (cases_of b o ys d) (cases-within d xs ys h (back UseWithin (uses_of c) (uses_of d) r)) in
+        let one = condition-less s b (cases_of s w xs c) (cases_of b o ys c) (cases-within c xs ys h (all-front UseWithin (uses_of c) (uses_of d) r)) in
+        let two = condition-less s b (cases_of s w xs d) (cases_of b o ys d) (cases-within d xs ys h (all-back UseWithin (uses_of c) (uses_of d) r)) in
         truths (λ sign above. and_if sign (condition_of s (cases_of s w xs c) sign above) (condition_of s (cases_of s w xs d) sign above))
         (λ sign above. and_if sign (condition_of b (cases_of b o ys c) sign above) (condition_of b (cases_of b o ys d) sign above))
         (λ sign a sign' a'. and-less sign sign' _ _ _ _ (one sign a sign' a') (two sign a sign' a'))
     cases-within (either c d) xs ys h r =
-        let one = condition-less s b (cases_of s w xs c) (cases_of b o ys c) (cases-within c xs ys h (front UseWithin (uses_of c) (uses_of d) r)) in
-        let two = condition-less s b (cases_of s w xs d) (cases_of b o ys d) (cases-within d xs ys h (back UseWithin (uses_of c) (uses_of d) r)) in
+        let one = condition-less s b (cases_of s w xs c) (cases_of b o ys c) (cases-within c xs ys h (all-front UseWithin (uses_of c) (uses_of d) r)) in
+        let two = condition-less s b (cases_of s w xs d) (cases_of b o ys d) (cases-within d xs ys h (all-back UseWithin (uses_of c) (uses_of d) r)) in
         truths (λ sign above. and_if (not sign) (condition_of s (cases_of s w xs c) sign above) (condition_of s (cases_of s w xs d) sign above))
         (λ sign above. and_if (not sign) (condition_of b (cases_of b o ys c) sign above) (condition_of b (cases_of b o ys d) sign above))
         (λ sign a sign' a'. and-less (not sign) (not sign') _ _ _ _ (one sign a sign' a') (two sign a sign' a'))
@@ -152,11 +145,11 @@ module _ (s b : Schema) (w o : Written) where
     in-less (listed items) xs ys h r q p k sign a sign' a' =
         any-less sign sign' (items_in s w xs items q sign a) (items_in b o ys items p sign' a') (items-less items xs ys h r q p k sign a sign' a')
     in-less (union c d) xs ys h r q p k sign a sign' a' =
-        and-less (not sign) (not sign') _ _ _ _ (in-less c xs ys h (front UseWithin (set_uses_of c) (set_uses_of d) r) q p k sign a sign' a')
-        (in-less d xs ys h (back UseWithin (set_uses_of c) (set_uses_of d) r) q p k sign a sign' a')
+        and-less (not sign) (not sign') _ _ _ _ (in-less c xs ys h (all-front UseWithin (set_uses_of c) (set_uses_of d) r) q p k sign a sign' a')
+        (in-less d xs ys h (all-back UseWithin (set_uses_of c) (set_uses_of d) r) q p k sign a sign' a')
     in-less (minus c d) xs ys h r q p k sign a sign' a' =
-        and-less sign sign' _ _ _ _ (in-less c xs ys h (front UseWithin (set_uses_of c) (set_uses_of d) r) q p k sign a sign' a')
-        (in-less d xs ys h (back UseWithin (set_uses_of c) (set_uses_of d) r) q p k (not sign) a (not sign') a')
+        and-less sign sign' _ _ _ _ (in-less c xs ys h (all-front UseWithin (set_uses_of c) (set_uses_of d) r) q p k sign a sign' a')
+        (in-less d xs ys h (all-back UseWithin (set_uses_of c) (set_uses_of d) r) q p k (not sign) a (not sign') a')
     in-less (find m filters) xs ys h r q p k sign a sign' a' =
         of_model-less m (λ t sign above. all_if sign (filters_at s w xs m filters t sign above)) (λ t sign above. all_if sign (filters_at b o ys m filters t sign above))
         (λ t u e sign a sign' a'. all-less sign sign' (filters_at s w xs m filters t sign a) (filters_at b o ys m filters u sign' a') (filters-less filters xs ys h m r t u e sign a sign' a'))
@@ -169,19 +162,19 @@ module _ (s b : Schema) (w o : Written) where
         let inner = scene-and s b xs ys (at_term x) (at_term y) h (terms x y (omega arith)) in
         exists-less sign sign' (sort_of s n) (sort_of b n) _ _
         (and-less sign sign' _ _ _ _
-        (in-less set xs ys h (front UseWithin (set_uses_of set) (uses_of e) r) (record_at n x) (record_at n y) (same_model n x y (omega arith)) sign (suc a) sign' (suc a'))
+        (in-less set xs ys h (all-front UseWithin (set_uses_of set) (uses_of e) r) (record_at n x) (record_at n y) (same_model n x y (omega arith)) sign (suc a) sign' (suc a'))
         (at_terms-less s b (suc a) (suc a') (λ t. of_model m q (λ u sign above. atom sign (formula.equal u t)) sign (suc a))
         (λ t. of_model m p (λ u sign above. atom sign (formula.equal u t)) sign' (suc a')) (λ t u e. equal-less m q p k t u e sign (suc a) sign' (suc a'))
         (cases_of s w (xs ++ at_term x ∷ []) e) (cases_of b o (ys ++ at_term y ∷ []) e)
-        (cases-within e (xs ++ at_term x ∷ []) (ys ++ at_term y ∷ []) inner (back UseWithin (set_uses_of set) (uses_of e) r))))
+        (cases-within e (xs ++ at_term x ∷ []) (ys ++ at_term y ∷ []) inner (all-back UseWithin (set_uses_of set) (uses_of e) r))))
     in-less (flat_mapped set n name body) xs ys h r q p k sign a sign' a' =
         let x = next_variable s w n a in
         let y = next_variable b o n a' in
         let inner = scene-and s b xs ys (at_term x) (at_term y) h (terms x y (omega arith)) in
         exists-less sign sign' (sort_of s n) (sort_of b n) _ _
         (and-less sign sign' _ _ _ _
-        (in-less set xs ys h (front UseWithin (set_uses_of set) (set_uses_of body) r) (record_at n x) (record_at n y) (same_model n x y (omega arith)) sign (suc a) sign' (suc a'))
-        (in-less body (xs ++ at_term x ∷ []) (ys ++ at_term y ∷ []) inner (back UseWithin (set_uses_of set) (set_uses_of body) r) q p k sign (suc a) sign' (suc a')))
+        (in-less set xs ys h (all-front UseWithin (set_uses_of set) (set_uses_of body) r) (record_at n x) (record_at n y) (same_model n x y (omega arith)) sign (suc a) sign' (suc a'))
+        (in-less body (xs ++ at_term x ∷ []) (ys ++ at_term y ∷ []) inner (all-back UseWithin (set_uses_of set) (set_uses_of body) r) q p k sign (suc a) sign' (suc a')))
     in-less (if_set c d e) xs ys h r q p k sign a sign' a' =
         let test = condition-less s b (cases_of s w xs c) (cases_of b o ys c) (cases-within c xs ys h (first UseWithin (uses_of c) (set_uses_of d) (set_uses_of e) r)) in
         let one = test true a true a' in
@@ -205,17 +198,17 @@ module _ (s b : Schema) (w o : Written) where
         (constant-less (same_truth sign (is_static n q)) (constant (same_truth sign' (is_static n p))), items-less items xs ys h r q p k sign a sign' a')
     items-less (record_item m e items) xs ys h r q p k sign a sign' a' = (
       at_terms-less s b a a' (λ t. of_model m q (λ u sign above. atom sign (formula.equal u t)) sign a) (λ t. of_model m p (λ u sign above. atom sign (formula.equal u t)) sign' a')
-          (λ t u e. equal-less m q p k t u e sign a sign' a') (cases_of s w xs e) (cases_of b o ys e) (cases-within e xs ys h (front UseWithin (uses_of e) (item_uses_of items) r)),
-      items-less items xs ys h (back UseWithin (uses_of e) (item_uses_of items) r) q p k sign a sign' a',
+          (λ t u e. equal-less m q p k t u e sign a sign' a') (cases_of s w xs e) (cases_of b o ys e) (cases-within e xs ys h (all-front UseWithin (uses_of e) (item_uses_of items) r)),
+      items-less items xs ys h (all-back UseWithin (uses_of e) (item_uses_of items) r) q p k sign a sign' a',
     )
 
     filters-less : (filters : Filters) (xs ys : Scene) → LessScene s b xs ys → (m : ℕ) → AllByRecursion UseWithin (filter_uses_of m filters) → (t u : Term) → term_size t ≤ term_size u
         → (sign : Bool) (a : ℕ) (sign' : Bool) (a' : ℕ) → LessAll (filters_at s w xs m filters t sign a) (filters_at b o ys m filters u sign' a')
     filters-less no_filters xs ys h m r t u e sign a sign' a' = tt
     filters-less (filter_and f op v filters) xs ys h m r t u e sign a sign' a' =
-        let own = back UseWithin (uses_of v) ((record { model = m; field = f }) ∷ filter_uses_of m filters) r in (
+        let own = all-back UseWithin (uses_of v) ((record { model = m; field = f }) ∷ filter_uses_of m filters) r in (
           passes-less op (field_cases s w m f t) (field_cases b o m f u) (cases_of s w xs v) (cases_of b o ys v) (own.0 t u e)
-              (cases-within v xs ys h (front UseWithin (uses_of v) ((record { model = m; field = f }) ∷ filter_uses_of m filters) r)) sign a sign' a',
+              (cases-within v xs ys h (all-front UseWithin (uses_of v) ((record { model = m; field = f }) ∷ filter_uses_of m filters) r)) sign a sign' a',
           filters-less filters xs ys h m own.1 t u e sign a sign' a',
         )
 
@@ -288,30 +281,30 @@ module _ (s b : Schema) (w o : Written) where
       reach-less nothing xs ys h r n a a' = omega arith
       reach-less (just e) xs ys h r n a a' = reach-less e xs ys h r n a a'
       reach-less (get e m f) xs ys h r n a a' =
-          let uses = front UseWithin (uses_of e) ((record { model = m; field = f }) ∷ []) r in
+          let uses = all-front UseWithin (uses_of e) ((record { model = m; field = f }) ∷ []) r in
           parts-less (length (uses_of e)) (λ n. reach s w g xs e n a) (λ n. at_terms s a (λ t. formula.equal g t) (cases_of s w xs e)) (λ n. reach b o i ys e n a')
           (λ n. at_terms b a' (λ t. formula.equal i t) (cases_of b o ys e)) (λ n. reach-less e xs ys h uses n a a')
           (λ n. at_terms-less s b a a' (λ t. formula.equal g t) (λ t. formula.equal i t) (λ t u e. omega (arith, near, e)) (cases_of s w xs e) (cases_of b o ys e) (cases-within e xs ys h uses)) n
       reach-less (equal c d op) xs ys h r n a a' =
           parts-less (length (uses_of c)) (λ n. reach s w g xs c n a) (λ n. reach s w g xs d n a) (λ n. reach b o i ys c n a') (λ n. reach b o i ys d n a')
-          (λ n. reach-less c xs ys h (front UseWithin (uses_of c) (uses_of d) r) n a a') (λ n. reach-less d xs ys h (back UseWithin (uses_of c) (uses_of d) r) n a a') n
+          (λ n. reach-less c xs ys h (all-front UseWithin (uses_of c) (uses_of d) r) n a a') (λ n. reach-less d xs ys h (all-back UseWithin (uses_of c) (uses_of d) r) n a a') n
       reach-less (iff c d op) xs ys h r n a a' =
           parts-less (length (uses_of c)) (λ n. reach s w g xs c n a) (λ n. reach s w g xs d n a) (λ n. reach b o i ys c n a') (λ n. reach b o i ys d n a')
-          (λ n. reach-less c xs ys h (front UseWithin (uses_of c) (uses_of d) r) n a a') (λ n. reach-less d xs ys h (back UseWithin (uses_of c) (uses_of d) r) n a a') n
+          (λ n. reach-less c xs ys h (all-front UseWithin (uses_of c) (uses_of d) r) n a a') (λ n. reach-less d xs ys h (all-back UseWithin (uses_of c) (uses_of d) r) n a a') n
       reach-less (less c d op) xs ys h r n a a' =
           let both = sides-of UseWithin op (uses_of c) (uses_of d) r in
           sides-less op (length (uses_of c)) (length (uses_of d)) (λ n. reach s w g xs c n a) (λ n. reach s w g xs d n a) (λ n. reach b o i ys c n a') (λ n. reach b o i ys d n a')
           (λ n. reach-less c xs ys h both.0 n a a') (λ n. reach-less d xs ys h both.1 n a a') n
       reach-less (within e m set) xs ys h r n a a' =
           parts-less (length (uses_of e)) (λ n. reach s w g xs e n a) (λ n. set_reach s w g xs set n a) (λ n. reach b o i ys e n a') (λ n. set_reach b o i ys set n a')
-          (λ n. reach-less e xs ys h (front UseWithin (uses_of e) (set_uses_of set) r) n a a') (λ n. set-less set xs ys h (back UseWithin (uses_of e) (set_uses_of set) r) n a a') n
+          (λ n. reach-less e xs ys h (all-front UseWithin (uses_of e) (set_uses_of set) r) n a a') (λ n. set-less set xs ys h (all-back UseWithin (uses_of e) (set_uses_of set) r) n a a') n
       reach-less (negation e) xs ys h r n a a' = reach-less e xs ys h r n a a'
       reach-less (both c d) xs ys h r n a a' =
           parts-less (length (uses_of c)) (λ n. reach s w g xs c n a) (λ n. reach s w g xs d n a) (λ n. reach b o i ys c n a') (λ n. reach b o i ys d n a')
-          (λ n. reach-less c xs ys h (front UseWithin (uses_of c) (uses_of d) r) n a a') (λ n. reach-less d xs ys h (back UseWithin (uses_of c) (uses_of d) r) n a a') n
+          (λ n. reach-less c xs ys h (all-front UseWithin (uses_of c) (uses_of d) r) n a a') (λ n. reach-less d xs ys h (all-back UseWithin (uses_of c) (uses_of d) r) n a a') n
       reach-less (either c d) xs ys h r n a a' =
           parts-less (length (uses_of c)) (λ n. reach s w g xs c n a) (λ n. reach s w g xs d n a) (λ n. reach b o i ys c n a') (λ n. reach b o i ys d n a')
-          (λ n. reach-less c xs ys h (front UseWithin (uses_of c) (uses_of d) r) n a a') (λ n. reach-less d xs ys h (back UseWithin (uses_of c) (uses_of d) r) n a a') n
+          (λ n. reach-less c xs ys h (all-front UseWithin (uses_of c) (uses_of d) r) n a a') (λ n. reach-less d xs ys h (all-back UseWithin (uses_of c) (uses_of d) r) n a a') n
       reach-less (if_expr c d e) xs ys h r n a a' =
           let uses = first UseWithin (uses_of c) (uses_of d) (uses_of e) r in
           let test = condition-less s b (cases_of s w xs c) (cases_of b o ys c) (cases-within c xs ys h uses) in
@@ -334,16 +327,16 @@ module _ (s b : Schema) (w o : Written) where
       set-less (listed items) xs ys h r n a a' = listed-less items xs ys h r n a a'
       set-less (union c d) xs ys h r n a a' =
           parts-less (length (set_uses_of c)) (λ n. set_reach s w g xs c n a) (λ n. set_reach s w g xs d n a) (λ n. set_reach b o i ys c n a') (λ n. set_reach b o i ys d n a')
-          (λ n. set-less c xs ys h (front UseWithin (set_uses_of c) (set_uses_of d) r) n a a') (λ n. set-less d xs ys h (back UseWithin (set_uses_of c) (set_uses_of d) r) n a a') n
+          (λ n. set-less c xs ys h (all-front UseWithin (set_uses_of c) (set_uses_of d) r) n a a') (λ n. set-less d xs ys h (all-back UseWithin (set_uses_of c) (set_uses_of d) r) n a a') n
       set-less (minus c d) xs ys h r n a a' =
           parts-less (length (set_uses_of c)) (λ n. set_reach s w g xs c n a) (λ n. set_reach s w g xs d n a) (λ n. set_reach b o i ys c n a') (λ n. set_reach b o i ys d n a')
-          (λ n. set-less c xs ys h (front UseWithin (set_uses_of c) (set_uses_of d) r) n a a') (λ n. set-less d xs ys h (back UseWithin (set_uses_of c) (set_uses_of d) r) n a a') n
+          (λ n. set-less c xs ys h (all-front UseWithin (set_uses_of c) (set_uses_of d) r) n a a') (λ n. set-less d xs ys h (all-back UseWithin (set_uses_of c) (set_uses_of d) r) n a a') n
       set-less (find m filters) xs ys h r n a a' = tested-less filters xs ys h m r n a a'
       set-less (path m e) xs ys h r n a a' = reach-less e xs ys h r n a a'
       set-less (mapped set k name m e) xs ys h r n a a' =
           let x = next_variable s w k a in
           let y = next_variable b o k a' in
-          let sources = front UseWithin (set_uses_of set) (uses_of e) r in
+          let sources = all-front UseWithin (set_uses_of set) (uses_of e) r in
           let inner = scene-and s b xs ys (at_term x) (at_term y) h (terms x y (omega arith)) in
           parts-less (length (set_uses_of set)) (λ n. set_reach s w g xs set n a)
           (λ n. formula.exists (sort_of s k) (formula.both (is_in s w xs set (record_at k x) true (suc a)) (reach s w g (xs ++ at_term x ∷ []) e n (suc a))))
@@ -352,12 +345,12 @@ module _ (s b : Schema) (w o : Written) where
           (λ n. set-less set xs ys h sources n a a')
           (λ n.
           let one = in-less set xs ys h sources (record_at k x) (record_at k y) (same_model k x y (omega arith)) true (suc a) true (suc a') in
-          let two = reach-less e (xs ++ at_term x ∷ []) (ys ++ at_term y ∷ []) inner (back UseWithin (set_uses_of set) (uses_of e) r) n (suc a) (suc a') in
+          let two = reach-less e (xs ++ at_term x ∷ []) (ys ++ at_term y ∷ []) inner (all-back UseWithin (set_uses_of set) (uses_of e) r) n (suc a) (suc a') in
           omega (arith, one, two)) n
       set-less (flat_mapped set k name e) xs ys h r n a a' =
           let x = next_variable s w k a in
           let y = next_variable b o k a' in
-          let sources = front UseWithin (set_uses_of set) (set_uses_of e) r in
+          let sources = all-front UseWithin (set_uses_of set) (set_uses_of e) r in
           let inner = scene-and s b xs ys (at_term x) (at_term y) h (terms x y (omega arith)) in
           parts-less (length (set_uses_of set)) (λ n. set_reach s w g xs set n a)
           (λ n. formula.exists (sort_of s k) (formula.both (is_in s w xs set (record_at k x) true (suc a)) (set_reach s w g (xs ++ at_term x ∷ []) e n (suc a))))
@@ -366,7 +359,7 @@ module _ (s b : Schema) (w o : Written) where
           (λ n. set-less set xs ys h sources n a a')
           (λ n.
           let one = in-less set xs ys h sources (record_at k x) (record_at k y) (same_model k x y (omega arith)) true (suc a) true (suc a') in
-          let two = set-less e (xs ++ at_term x ∷ []) (ys ++ at_term y ∷ []) inner (back UseWithin (set_uses_of set) (set_uses_of e) r) n (suc a) (suc a') in
+          let two = set-less e (xs ++ at_term x ∷ []) (ys ++ at_term y ∷ []) inner (all-back UseWithin (set_uses_of set) (set_uses_of e) r) n (suc a) (suc a') in
           omega (arith, one, two)) n
       set-less (if_set c d e) xs ys h r n a a' =
           let uses = first UseWithin (uses_of c) (set_uses_of d) (set_uses_of e) r in
@@ -390,16 +383,16 @@ module _ (s b : Schema) (w o : Written) where
       listed-less (static_item k items) xs ys h r n a a' = listed-less items xs ys h r n a a'
       listed-less (record_item m e items) xs ys h r n a a' =
           parts-less (length (uses_of e)) (λ n. reach s w g xs e n a) (λ n. items_reach s w g xs items n a) (λ n. reach b o i ys e n a') (λ n. items_reach b o i ys items n a')
-          (λ n. reach-less e xs ys h (front UseWithin (uses_of e) (item_uses_of items) r) n a a') (λ n. listed-less items xs ys h (back UseWithin (uses_of e) (item_uses_of items) r) n a a') n
+          (λ n. reach-less e xs ys h (all-front UseWithin (uses_of e) (item_uses_of items) r) n a a') (λ n. listed-less items xs ys h (all-back UseWithin (uses_of e) (item_uses_of items) r) n a a') n
 
       tested-less : (filters : Filters) (xs ys : Scene) → LessScene s b xs ys → (m : ℕ) → AllByRecursion UseWithin (filter_uses_of m filters) → (n a a' : ℕ)
           → size (filters_reach s w g xs m filters n a) ≤ size (filters_reach b o i ys m filters n a')
       tested-less no_filters xs ys h m r n a a' = omega arith
       tested-less (filter_and f op v filters) xs ys h m r n a a' =
-          let own = back UseWithin (uses_of v) ((record { model = m; field = f }) ∷ filter_uses_of m filters) r in
+          let own = all-back UseWithin (uses_of v) ((record { model = m; field = f }) ∷ filter_uses_of m filters) r in
           parts-less (length (uses_of v)) (λ n. reach s w g xs v n a) (in_parts 1 (λ n. formula.yes) (λ n. filters_reach s w g xs m filters n a)) (λ n. reach b o i ys v n a')
           (in_parts 1 (λ n. formula.yes) (λ n. filters_reach b o i ys m filters n a'))
-          (λ n. reach-less v xs ys h (front UseWithin (uses_of v) ((record { model = m; field = f }) ∷ filter_uses_of m filters) r) n a a')
+          (λ n. reach-less v xs ys h (all-front UseWithin (uses_of v) ((record { model = m; field = f }) ∷ filter_uses_of m filters) r) n a a')
           (λ n. parts-less 1 (λ n. formula.yes) (λ n. filters_reach s w g xs m filters n a) (λ n. formula.yes) (λ n. filters_reach b o i ys m filters n a')
           (λ n. omega arith) (λ n. tested-less filters xs ys h m own.1 n a a') n) n
 
