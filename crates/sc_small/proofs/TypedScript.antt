@@ -28,7 +28,7 @@ use Rattle.sc_commands.specs.Commands.{init_place, given_places, given_sizes, co
 use Rattle.sc_commands.specs.Resolved.{added_field, added_static, created, field_seen, given, init_over, known_field, known_model, known_static, new_field_in, new_principal, reason_given, removed_field, removed_model, removed_static, resolved, unused, updated_field, updated_model, weakened_field, weakened_model}
 use Rattle.sc_commands.specs.Scripts.{Steps, Stepped, no_steps, one_step, script_from, steps, then_steps, typed_script, whole_script}
 use Rattle.sc_small.specs.Small.{PolicyIsSmall, GivenAreSmall, CommandIsSmall}
-use Rattle.sc_small.specs.Typed.{counted}
+use Rattle.sc_scripts.specs.Counted.{counted}
 use Rattle.sc_proper.proofs.Resolves.{bound, ok-same}
 use Rattle.sc_small.proofs.TypedSpec.{all-small, model-shaped, model-long, model-small}
 

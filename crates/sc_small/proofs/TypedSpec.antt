@@ -22,7 +22,7 @@ use Rattle.sc_specs.specs.Sizes.{Sizes, most_size, is_small, are_small, field_pl
 use Rattle.sc_proper.proofs.Lists.{all-front, all-back}
 use Rattle.sc_proper.proofs.Resolves.{bound, ok-same}
 use Rattle.sc_small.specs.Small.{ModelIsSmall, FieldIsSmall}
-use Rattle.sc_small.specs.Typed.{counted}
+use Rattle.sc_scripts.specs.Counted.{counted}
 use Rattle.sc_specs.specs.Specs.{empty_schema, next_static, resolved_spec, typed_spec, with_static}
 
 -- ---- sizes that are small

@@ -4,17 +4,14 @@ use Rattle.sc_tree.specs.declared.models.Spec.{Spec}
 use Rattle.sc_tree.specs.declared.commands.Script as written
 use Rattle.sc_schema.specs.Schema.{Schema}
 use Rattle.sc_schema.specs.Script.{Script, IsScript}
-use Rattle.sc_specs.specs.Sizes.{Sizes, most_size}
+use Rattle.sc_specs.specs.Sizes.{most_size}
 use Rattle.sc_specs.specs.Specs.{typed_spec}
 use Rattle.sc_commands.specs.Scripts.{typed_script}
+use Rattle.sc_scripts.specs.Counted.{counted}
 use Rattle.sc_duty.specs.declared.duty.Duty.{Duty}
 use Rattle.sc_duty.specs.Duties.{obligations_of, formula_of}
-use Rattle.sc_duty.specs.Sizes.{size, policy_size, init_size}
+use Rattle.sc_duty.specs.Sizes.{size}
 use Rattle.sc_small.specs.Small.{KeepsTruths}
-
--- what typing counts
-abbrev pub counted : Sizes
-counted = record { policy = policy_size; init = init_size }
 
 -- 60,005 nodes
 abbrev pub most_nodes : ℕ
