@@ -1,15 +1,15 @@
 -- What stands for the fields that a script added, over the schema of start databases and over the schema after a command.
-use Rattle.std.proofs.Common.{◌≡◌, ℕ, zero, suc, ◌+◌, ◌<◌, ◌≤◌, ◌⊎◌, Bool, true, false, not, ◌&&◌, List, [], ◌∷◌, ◌++◌, length, refl, ap, sym, ◌∙◌, subst, arith, inl, inr, Contains}
+use Rattle.std.proofs.Common.{◌≡◌, ℕ, zero, suc, ◌+◌, ◌<◌, ◌≤◌, ◌⊎◌, Bool, true, false, ◌&&◌, List, [], ◌∷◌, ◌++◌, refl, ap, sym, ◌∙◌, subst, arith, inl, inr, Contains}
 use Rattle.std.specs.Prelude.{Option, Some, None, map, fold, ◌==◌, is_some}
 use Rattle.std.specs.List.{AllByRecursion}
 use Rattle.std.specs.Option.{option_map_or}
-use Rattle.std.proofs.lemmas.Bool.{eqb-true, eq-eqb}
+use Rattle.std.proofs.lemmas.Bool.{eq-eqb}
 use Rattle.std.proofs.lemmas.List.Elements.{Contains-append_left, Contains-append_right}
 use Rattle.sc_schema.specs.declared.types.TBase.TheVariants as base
 use Rattle.sc_schema.specs.declared.types.TTy.{TTy}
 use Rattle.sc_schema.specs.declared.types.TTy.TheVariants.{Plain, Set, Opt}
 use Rattle.sc_schema.specs.Trees.{Init}
-use Rattle.sc_schema.specs.Schema.{FieldInfo, ModelInfo, Added, Schema, type_of}
+use Rattle.sc_schema.specs.Schema.{FieldInfo, Added, Schema, type_of}
 use Rattle.sc_schema.specs.Commands.{Command, create_model, delete_model, add_static, remove_static, add_principal, add_field, remove_field, update_field, weaken_field, update_model, weaken_model, schema_after}
 use Rattle.sc_schema.specs.Uses.{Use, init_uses_of}
 use Rattle.sc_schema.specs.Proper.{use_of, AreInOrder, IsProper}
@@ -20,8 +20,10 @@ use Rattle.sc_duty.specs.Formulas.{Written, nothing_written, written_out, with_a
 use Rattle.sc_duty.specs.Sizes.{term_size}
 use Rattle.sc_duty.proofs.Adding.{written-more, written-kept, added-split}
 use Rattle.sc_duty.proofs.Created.{command-there, created-type, first-type, type-split}
-use Rattle.sc_duty.proofs.Failing.{no-element, in-tail}
+use Rattle.sc_duty.proofs.Failing.{no-element}
 use Rattle.sc_duty.proofs.Shown.{AddsNothing, field-there}
+use Rattle.sc_proper.specs.Steady.{ReadsBelow}
+use Rattle.sc_proper.proofs.After.{read-weaken}
 use Rattle.sc_proper.proofs.Lists.{all-append, all-both, all-weaken}
 use Rattle.sc_small.specs.Asked.{holds_truth}
 use Rattle.sc_small.specs.Small.{StaysTruth, KeepsTruths}
@@ -114,28 +116,21 @@ module _ (t : Script) (is : IsScript t) where
       (subst (λ (s : Schema). (schema_at t j).next_field ≤ s.next_field) (sym (is.steps (j + n) c.0 c.1)) up)
 
   -- initialisers of added fields read fields whose numbers are taken
-  abbrev ReadsBelow : ℕ → List Added → Type 0
-  ReadsBelow next added = AllByRecursion (λ (a : Added). AllByRecursion (λ (u : Use). u.field < next) (init_uses_of a.init)) added
-
-  reads-more : (next more : ℕ) → next ≤ more → (added : List Added) → ReadsBelow next added → ReadsBelow more added
-  reads-more next more up added h =
-      all-weaken (λ (a : Added). AllByRecursion (λ (u : Use). u.field < next) (init_uses_of a.init)) (λ (a : Added). AllByRecursion (λ (u : Use). u.field < more) (init_uses_of a.init))
-      (λ a own. all-weaken (λ (u : Use). u.field < next) (λ (u : Use). u.field < more) (λ u less. omega (arith, less, up)) (init_uses_of a.init) own) added h
-
-  pub reads-below : (k : ℕ) → k ≤ count t → ReadsBelow (schema_at t k).next_field (schema_at t k).added
-  reads-below zero within = subst (λ (added : List Added). ReadsBelow (schema_at t 0).next_field added) (sym is.nothing_added) tt
+  pub reads-below : (k : ℕ) → k ≤ count t → AllByRecursion (ReadsBelow (schema_at t k).next_field) (schema_at t k).added
+  reads-below zero within = subst (AllByRecursion (ReadsBelow (schema_at t 0).next_field)) (sym is.nothing_added) tt
   reads-below (suc k) within =
       let s : Schema = schema_at t k in
       let c = command-there t is k (omega (arith, within)) in
+      let next : ℕ = (schema_after s c.0).next_field in
       let up = next-field-after s c.0 in
-      let before = reads-more s.next_field (schema_after s c.0).next_field up s.added (reads-below k (omega (arith, within))) in
-      subst (λ (u : Schema). ReadsBelow u.next_field u.added) (sym (is.steps k c.0 c.1))
-      (added-step (λ added. ReadsBelow (schema_after s c.0).next_field added) s c.0 before
+      let before = read-weaken s.next_field next s.added up (reads-below k (omega (arith, within))) in
+      subst (λ (u : Schema). AllByRecursion (ReadsBelow u.next_field) u.added) (sym (is.steps k c.0 c.1))
+      (added-step (AllByRecursion (ReadsBelow next)) s c.0 before
       (λ m f init same.
       let here : command_at t k ≡ Some (add_field m f init) = c.1 ∙ ap (λ (x : Command). Some x) same in
       let uses = init-there s m f.ty init (is.commands k (add_field m f init) here).2 in
-      all-append (λ (a : Added). AllByRecursion (λ (u : Use). u.field < (schema_after s c.0).next_field) (init_uses_of a.init)) s.added ((record { model = m; field = f.number; init = init }) ∷ []) before (
-        all-weaken (IsThere s) (λ (u : Use). u.field < (schema_after s c.0).next_field)
+      all-append (ReadsBelow next) s.added ((record { model = m; field = f.number; init = init }) ∷ []) before (
+        all-weaken (IsThere s) (λ (u : Use). u.field < next)
             (λ u own. let less = there-below s (is.proper k (omega (arith, within))) u own in omega (arith, less, up)) (init_uses_of init) uses,
         tt,
       )))
@@ -259,8 +254,7 @@ module _ (t : Script) (is : IsScript t) (keeps : KeepsTruths t) (j : ℕ) (withi
 
   pub good-reads : AllByRecursion (λ (a : Added). AllByRecursion IsGood (init_uses_of a.init)) now.added
   good-reads =
-      all-both (λ (a : Added). AllByRecursion (λ (u : Use). u.field < now.next_field) (init_uses_of a.init)) (λ (a : Added). AllByRecursion (StaysTruth t now) (init_uses_of a.init))
-      (λ (a : Added). AllByRecursion IsGood (init_uses_of a.init))
+      all-both (ReadsBelow now.next_field) (λ (a : Added). AllByRecursion (StaysTruth t now) (init_uses_of a.init)) (λ (a : Added). AllByRecursion IsGood (init_uses_of a.init))
       (λ a below stays. all-both (λ (u : Use). u.field < now.next_field) (StaysTruth t now) IsGood (λ u less truth. (less, λ other. truth)) (init_uses_of a.init) below stays) now.added
       (reads-below t is j within) (keeps j within)
 

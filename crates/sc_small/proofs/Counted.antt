@@ -1,6 +1,6 @@
 -- Policies and initialisers over one schema, asked about records and principals, against what their sizes count.
-use Rattle.std.proofs.Common.{◌≡◌, ℕ, ◌≤◌, Bool, true, false, not, ◌&&◌, List, [], ◌∷◌, refl, arith}
-use Rattle.std.specs.Prelude.{Option, Some, fold, ◌==◌, if◌then◌else◌}
+use Rattle.std.proofs.Common.{◌≡◌, ℕ, Bool, true, false, ◌&&◌, List, [], ◌∷◌, refl, arith}
+use Rattle.std.specs.Prelude.{Some, fold, ◌==◌, if◌then◌else◌}
 use Rattle.std.specs.List.{AllByRecursion}
 use Rattle.std.specs.Option.{option_map_or}
 use Rattle.sc_schema.specs.Schema.{Added, Schema}
@@ -8,7 +8,7 @@ use Rattle.sc_schema.specs.Uses.{Use, init_uses_of}
 use Rattle.sc_formula.specs.Trees.{Term}
 use Rattle.sc_duty.specs.Cases.{Cases, held}
 use Rattle.sc_duty.specs.Formulas.{Who, static, record_at, of_each_kind, Written, nothing_written, written_out, with_added, init_cases}
-use Rattle.sc_duty.specs.Sizes.{term_size, row, other}
+use Rattle.sc_duty.specs.Sizes.{row, other}
 use Rattle.sc_small.specs.Asked.{policy_uses_of, IsOne, AllowedIsCounted, ReachIsCounted}
 use Rattle.sc_small.proofs.Within.{LessWho, is_static, any_model, each_model, Within, fields}
 use Rattle.sc_small.proofs.WithinSets.{FieldWithin, UseWithin, allowed-less, init-within, init_reach-less}

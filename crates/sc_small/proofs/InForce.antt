@@ -1,6 +1,6 @@
 -- The policies in force after each command, and the schemas over which they were counted.
-use Rattle.std.proofs.Common.{◌≡◌, ℕ, zero, suc, ◌+◌, ◌<◌, ◌≤◌, ◌⊎◌, Bool, true, false, not, List, [], ◌∷◌, ◌++◌, refl, ap, sym, ◌∙◌, subst, arith, cond, inl, inr}
-use Rattle.std.specs.Prelude.{Option, Some, None, IfSome, filter, map, ◌==◌, if◌then◌else◌}
+use Rattle.std.proofs.Common.{◌≡◌, ℕ, zero, suc, ◌≤◌, ◌⊎◌, Bool, true, false, not, List, [], ◌∷◌, refl, sym, subst, arith, inl, inr}
+use Rattle.std.specs.Prelude.{Option, Some, None, IfSome, ◌==◌, if◌then◌else◌}
 use Rattle.std.specs.List.{AllByRecursion}
 use Rattle.std.specs.Option.{option_map}
 use Rattle.sc_schema.specs.declared.rights.Right.{Right}
@@ -10,14 +10,14 @@ use Rattle.sc_schema.specs.declared.rights.Target.TheVariants as on
 use Rattle.sc_schema.specs.Trees.{Policy}
 use Rattle.sc_schema.specs.Schema.{FieldInfo, ModelInfo, Schema, model_of, field_of, policy_in}
 use Rattle.sc_schema.specs.Commands.{Command, create_model, delete_model, add_static, remove_static, add_principal, add_field, remove_field, update_field, weaken_field, update_model, weaken_model, given_or, change_model, change_field, with_field, without_field, with_field_policies, with_model_policies, schema_after}
-use Rattle.sc_schema.specs.Script.{Script, schema_at, command_at, count, IsScript}
+use Rattle.sc_schema.specs.Script.{Script, schema_at, count, IsScript}
 use Rattle.sc_data.proofs.Finds.{find-among}
 use Rattle.sc_eval.specs.Gain.{policy_at}
 use Rattle.sc_eval.proofs.Kept.{found-field}
 use Rattle.sc_duty.proofs.Created.{command-there}
 use Rattle.sc_proper.proofs.Lists.{all-append, all-filter, all-weaken}
 use Rattle.sc_small.specs.Asked.{policy_uses_of}
-use Rattle.sc_small.specs.Small.{PolicyIsSmall, FieldIsSmall, ModelIsSmall, CommandIsSmall, IsSmall}
+use Rattle.sc_small.specs.Small.{PolicyIsSmall, CommandIsSmall, IsSmall}
 use Rattle.sc_small.proofs.Typed.{IsThere, OfField, OfModel, models-weaken, models-together, all-there}
 
 -- ---- policies that a command keeps or gives

@@ -1,6 +1,6 @@
 -- The formulas of obligations are small.
-use Rattle.std.proofs.Common.{◌≡◌, ℕ, zero, suc, ◌+◌, ◌-◌, ◌*◌, ◌<◌, ◌≤◌, Bool, true, false, not, List, [], ◌∷◌, ◌++◌, length, max, min, sum, refl, ap, sym, ◌∙◌, subst, arith, Contains}
-use Rattle.std.specs.Prelude.{Option, Some, None, map, fold, slice_get, MatchOption}
+use Rattle.std.proofs.Common.{◌≡◌, ℕ, zero, suc, ◌+◌, ◌-◌, ◌*◌, ◌<◌, ◌≤◌, Bool, true, false, not, List, [], ◌∷◌, ◌++◌, length, max, min, sum, refl, ap, sym, ◌∙◌, subst, arith}
+use Rattle.std.specs.Prelude.{Option, Some, None, map, fold, MatchOption}
 use Rattle.std.specs.List.{AllByRecursion, range_with_len}
 use Rattle.std.specs.Option.{option_map_or}
 use Rattle.std.proofs.lemmas.Option.{slice_get_within}
@@ -12,26 +12,26 @@ use Rattle.sc_schema.specs.declared.rights.Target.{Target}
 use Rattle.sc_schema.specs.declared.rights.Target.TheVariants as on
 use Rattle.sc_schema.specs.Trees.{Policy, Init}
 use Rattle.sc_schema.specs.Schema.{FieldInfo, Added, Schema, model_of_target}
-use Rattle.sc_schema.specs.Commands.{Command, add_field, schema_after}
-use Rattle.sc_schema.specs.Uses.{Use, init_uses_of}
+use Rattle.sc_schema.specs.Commands.{Command, add_field}
+use Rattle.sc_schema.specs.Uses.{init_uses_of}
 use Rattle.sc_schema.specs.Script.{Script, schema_at, command_at, count, IsScript}
 use Rattle.sc_eval.specs.Gain.{updates, policy_at}
 use Rattle.sc_formula.specs.Trees.{Term, bound, Formula, no, both}
 use Rattle.sc_duty.specs.declared.duty.Duty.{Duty}
 use Rattle.sc_duty.specs.Structures.{sort_of}
 use Rattle.sc_duty.specs.Cases.{constant}
-use Rattle.sc_duty.specs.Formulas.{Who, static, record_at, of_each_kind, Written, written_out, is_allowed}
+use Rattle.sc_duty.specs.Formulas.{Who, static, record_at, of_each_kind, written_out, is_allowed}
 use Rattle.sc_duty.specs.Reach.{init_reach}
-use Rattle.sc_duty.specs.Duties.{obligations_of, written_at, has_right, for_some, for_some_principal, gain_formula_of, leak_formula, use_formula, added_formula, flow_formula_of, formula_of}
+use Rattle.sc_duty.specs.Duties.{written_at, has_right, for_some, for_some_principal, gain_formula_of, leak_formula, added_formula, flow_formula_of, formula_of}
 use Rattle.sc_duty.specs.Gains.{IsGainDuty}
 use Rattle.sc_duty.specs.Listed.{IsUseDuty, IsObligation}
-use Rattle.sc_duty.specs.Sizes.{term_size, size, row, other, policy_size_over, policy_size, result_size, init_size_over, init_size, most_size}
+use Rattle.sc_duty.specs.Sizes.{term_size, size, row, other, policy_size_over, init_size_over, most_size}
 use Rattle.sc_duty.proofs.Listed.{from-list}
 use Rattle.sc_proper.proofs.Lists.{all-back}
 use Rattle.sc_small.specs.Asked.{IsOne, policy_uses_of}
-use Rattle.sc_small.specs.Small.{PolicyIsSmall, CommandIsSmall, IsSmall, KeepsTruths, FormulasAreSmall}
+use Rattle.sc_small.specs.Small.{CommandIsSmall, IsSmall, KeepsTruths, FormulasAreSmall}
 use Rattle.sc_small.proofs.Within.{constant-less}
-use Rattle.sc_small.proofs.WithinSets.{UseWithin, allowed-less, init_reach-less}
+use Rattle.sc_small.proofs.WithinSets.{allowed-less, init_reach-less}
 use Rattle.sc_small.proofs.Counted.{one-who}
 use Rattle.sc_small.proofs.Along.{IsGood, good-reads, good-there, uses-within}
 use Rattle.sc_small.proofs.InForce.{WasCounted, in-force}

@@ -1,8 +1,7 @@
 -- The formulas of the obligations of a typed script are small.
-use Rattle.std.proofs.Common.{◌≡◌, ℕ, ◌≤◌, ◌<◌, sym, subst, arith}
+use Rattle.std.proofs.Common.{◌≤◌, ◌<◌, sym, subst, arith}
 use Rattle.std.specs.List.{AllByRecursion}
 use Rattle.sc_schema.specs.Schema.{Schema}
-use Rattle.sc_schema.specs.Script.{schema_at}
 use Rattle.sc_specs.specs.Sizes.{most_size}
 use Rattle.sc_duty.specs.Sizes as counted
 use Rattle.sc_small.specs.Small.{ModelIsSmall, IsSmall}

@@ -1,6 +1,6 @@
 -- What the commands of a script give that is typed with the sizes that are counted is within the limit.
-use Rattle.std.proofs.Common.{◌≡◌, ℕ, zero, suc, ◌+◌, ◌≤◌, ◌<◌, Bool, true, false, cond, List, [], ◌∷◌, ◌++◌, length, map, refl, ap, sym, ◌∙◌, subst, arith}
-use Rattle.std.specs.Prelude.{Option, Some, None, Ok, Err, IfSome, option_to_list, slice_get, slice_index_or}
+use Rattle.std.proofs.Common.{◌≡◌, ℕ, zero, suc, ◌+◌, ◌≤◌, Bool, true, false, cond, List, [], ◌∷◌, ◌++◌, length, refl, ap, sym, subst, arith}
+use Rattle.std.specs.Prelude.{Option, Some, None, Ok, Err, option_to_list, slice_get, slice_index_or}
 use Rattle.std.specs.List.{AllByRecursion}
 use Rattle.std.proofs.lemmas.List.{length-append, length-map}
 use Rattle.sc_tree.specs.declared.named.Named.{Named}
@@ -13,21 +13,21 @@ use Rattle.sc_tree.specs.declared.commands.Command as written
 use Rattle.sc_tree.specs.declared.commands.Command.TheVariants as w
 use Rattle.sc_tree.specs.declared.commands.Script as written_script
 use Rattle.sc_schema.specs.Trees.{Policy, Init}
-use Rattle.sc_schema.specs.Schema.{FieldInfo, ModelInfo, Schema, is_principal_model}
+use Rattle.sc_schema.specs.Schema.{ModelInfo, Schema, is_principal_model}
 use Rattle.sc_schema.specs.Commands.{Command, create_model, delete_model, add_static, remove_static, add_principal, add_field, remove_field, update_field, weaken_field, update_model, weaken_model, schema_after}
 use Rattle.sc_schema.specs.Script.{Script}
 use Rattle.sc_typing.specs.declared.type_err.TypeErr.TheVariants.{Twice}
-use Rattle.sc_typing.specs.Outcome.{Checked, ◌>>=◌}
+use Rattle.sc_typing.specs.Outcome.{Checked}
 use Rattle.sc_specs.specs.declared.stage.Stage.TheVariants.{Types, Policies}
-use Rattle.sc_specs.specs.Models.{created_model, policy_over, typed_model, with_names, with_typed}
+use Rattle.sc_specs.specs.Models.{created_model, policy_over, with_names, with_typed}
 use Rattle.sc_specs.specs.NewNames.{new_static}
-use Rattle.sc_specs.specs.Sizes.{most_size, are_small, field_sizes, field_places, model_places, model_sizes, policy_place}
+use Rattle.sc_specs.specs.Sizes.{most_size, are_small, model_places, model_sizes, policy_place}
 use Rattle.sc_specs.specs.Specs.{next_static}
 use Rattle.sc_commands.specs.declared.thing.Thing.TheVariants as the
-use Rattle.sc_commands.specs.Commands.{init_place, given_places, given_sizes, command_places, command_sizes, command_is_small, typed_command}
+use Rattle.sc_commands.specs.Commands.{given_places, given_sizes, command_places, command_sizes, command_is_small, typed_command}
 use Rattle.sc_commands.specs.Resolved.{added_field, added_static, created, field_seen, given, init_over, known_field, known_model, known_static, new_field_in, new_principal, reason_given, removed_field, removed_model, removed_static, resolved, unused, updated_field, updated_model, weakened_field, weakened_model}
 use Rattle.sc_commands.specs.Scripts.{Steps, Stepped, no_steps, one_step, script_from, steps, then_steps, typed_script, whole_script}
-use Rattle.sc_small.specs.Small.{PolicyIsSmall, GivenAreSmall, CommandIsSmall}
+use Rattle.sc_small.specs.Small.{GivenAreSmall, CommandIsSmall}
 use Rattle.sc_scripts.specs.Counted.{counted}
 use Rattle.sc_proper.proofs.Resolves.{bound, ok-same}
 use Rattle.sc_small.proofs.TypedSpec.{all-small, model-shaped, model-long, model-small}

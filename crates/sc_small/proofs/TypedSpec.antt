@@ -1,7 +1,7 @@
 -- The policies of a specification that is typed with the sizes that are counted are within the limit.
-use Rattle.std.proofs.Common.{◌≡◌, ℕ, suc, ◌+◌, ◌≤◌, Bool, true, false, List, [], ◌∷◌, ◌++◌, length, map, refl, ap, sym, ◌∙◌, subst, arith, cond, append_assoc, append-nil}
-use Rattle.std.specs.Prelude.{Ok, Err, nat_le, if◌then◌else◌}
-use Rattle.std.specs.List.{AllByRecursion, flat_map, zip}
+use Rattle.std.proofs.Common.{◌≡◌, ℕ, ◌+◌, ◌≤◌, Bool, true, false, List, [], ◌∷◌, ◌++◌, length, refl, ap, sym, ◌∙◌, subst, arith, cond, append_assoc, append-nil}
+use Rattle.std.specs.Prelude.{Ok, Err, nat_le}
+use Rattle.std.specs.List.{AllByRecursion, flat_map}
 use Rattle.std.proofs.lemmas.Bool.{leb-true}
 use Rattle.std.proofs.lemmas.List.{length-append}
 use Rattle.sc_tree.specs.declared.named.Named.{Named}
@@ -10,15 +10,14 @@ use Rattle.sc_tree.specs.declared.models.ModelDef.{ModelDef}
 use Rattle.sc_tree.specs.declared.models.Spec.{Spec}
 use Rattle.sc_schema.specs.Schema.{FieldInfo, ModelInfo, Schema}
 use Rattle.sc_schema.specs.Commands.{add_static, schema_after}
-use Rattle.sc_typing.specs.declared.type_err.TypeErr.{TypeErr}
 use Rattle.sc_typing.specs.declared.type_err.TypeErr.TheVariants.{Expanded}
-use Rattle.sc_typing.specs.Outcome.{Checked, ◌>>=◌}
+use Rattle.sc_typing.specs.Outcome.{Checked}
 use Rattle.sc_specs.specs.declared.stage.Stage.{Stage}
 use Rattle.sc_specs.specs.declared.stage.Stage.TheVariants.{Types, Policies}
-use Rattle.sc_specs.specs.InTurn.{in_turn, all_hold}
+use Rattle.sc_specs.specs.InTurn.{in_turn}
 use Rattle.sc_specs.specs.Models.{policy_at, typed_field, typed_model, with_model, with_models, with_names, with_next_field, with_typed}
 use Rattle.sc_specs.specs.NewNames.{new_static}
-use Rattle.sc_specs.specs.Sizes.{Sizes, most_size, is_small, are_small, field_places, field_sizes, model_places, model_sizes, models_are_small}
+use Rattle.sc_specs.specs.Sizes.{most_size, is_small, are_small, field_places, field_sizes, model_places, model_sizes, models_are_small}
 use Rattle.sc_proper.proofs.Lists.{all-front, all-back}
 use Rattle.sc_proper.proofs.Resolves.{bound, ok-same}
 use Rattle.sc_small.specs.Small.{ModelIsSmall, FieldIsSmall}

@@ -1,26 +1,25 @@
 -- Formulas of expressions, sets, policies and initialisers that are no larger than others.
-use Rattle.std.proofs.Common.{◌≡◌, ℕ, suc, ◌+◌, ◌-◌, ◌≤◌, Bool, true, false, not, ◌&&◌, List, [], ◌∷◌, ◌++◌, length, refl, ap, sym, ◌∙◌, subst, arith, cond}
-use Rattle.std.specs.Prelude.{Option, Some, None, fold, nat_lt, ◌==◌, if◌then◌else◌}
+use Rattle.std.proofs.Common.{ℕ, suc, ◌-◌, ◌≤◌, Bool, true, false, not, List, [], ◌∷◌, ◌++◌, length, arith}
+use Rattle.std.specs.Prelude.{nat_lt}
 use Rattle.std.specs.List.{AllByRecursion}
-use Rattle.std.specs.Option.{option_map_or}
 use Rattle.sc_tree.specs.declared.exprs.CmpOp.{CmpOp}
 use Rattle.sc_tree.specs.declared.exprs.CmpOp.TheVariants.{Eq, Ne, Lt, Le, Gt, Ge}
 use Rattle.sc_tree.specs.declared.exprs.FilterOp.{FilterOp}
 use Rattle.sc_tree.specs.declared.exprs.FilterOp.TheVariants.{Cmp, Has}
 use Rattle.sc_schema.specs.Trees.{Expr, flag, num, str, var, nothing, just, get, equal, iff, less, within, negation, both, either, if_expr, match_expr, SetExpr, everyone, nobody, listed, union, minus, find, path, mapped, flat_mapped, if_set, match_set, Items, no_items, static_item, record_item, Filters, no_filters, filter_and, Policy, to_all, to_none, by_record, Init, plain, of_set}
-use Rattle.sc_schema.specs.Schema.{Added, Schema}
+use Rattle.sc_schema.specs.Schema.{Schema}
 use Rattle.sc_schema.specs.Uses.{Use, in_order_of_text, uses_of, set_uses_of, item_uses_of, filter_uses_of, init_uses_of}
 use Rattle.sc_eval.specs.Meaning.{same_truth}
 use Rattle.sc_formula.specs.Trees.{Term, Formula}
 use Rattle.sc_formula.specs.Trees as formula
 use Rattle.sc_duty.specs.Structures.{sort_of, function_of}
-use Rattle.sc_duty.specs.Cases.{Condition, constant, atom, and_if, all_if, any_if, chosen, same_condition, Cases, at_term, held, truth, among, none, some, choice, at_ends, of_term, at_terms, of_option, is_present, condition_of, has_term, same_term, less_term, compared}
-use Rattle.sc_duty.specs.Formulas.{Scene, Who, static, record_at, of_each_kind, of_model, is_static, Written, field_cases, passes, next_variable, cases_of, is_in, items_in, filters_at, is_allowed, init_cases, with_added}
+use Rattle.sc_duty.specs.Cases.{Condition, constant, atom, and_if, all_if, chosen, same_condition, Cases, at_term, held, none, choice, at_ends, of_term, at_terms, of_option, condition_of, has_term, same_term, less_term}
+use Rattle.sc_duty.specs.Formulas.{Scene, Who, record_at, of_model, is_static, Written, field_cases, passes, next_variable, cases_of, is_in, items_in, filters_at, is_allowed, init_cases}
 use Rattle.sc_duty.specs.Reach.{in_parts, sides, end_is_none, end_is_some, reach, set_reach, items_reach, filters_reach, init_reach}
 use Rattle.sc_duty.specs.Sizes.{term_size, size}
 use Rattle.sc_proper.proofs.Lists.{all-front, all-back}
 use Rattle.sc_small.specs.Asked.{policy_uses_of}
-use Rattle.sc_small.proofs.Within.{some-size, constant-less, atom-less, and-less, exists-less, test-less, LessAll, all-less, any-less, LessCondition, LessMembers, same-less, LessWho, is_static as a_static, same_model, any_model, each_model, of_model-less, Within, terms, fields, truths, sets, nones, somes, choices, ends-less, continued-within, at_terms-less, term-within, option-within, option-less, condition-less, has-less, same_term-less, less_term-less, some-within, compared-less, LessScene, scene-and, scene-at}
+use Rattle.sc_small.proofs.Within.{constant-less, atom-less, and-less, exists-less, test-less, LessAll, all-less, any-less, LessCondition, same-less, LessWho, same_model, of_model-less, Within, terms, fields, truths, sets, nones, somes, choices, ends-less, continued-within, at_terms-less, term-within, option-within, option-less, condition-less, has-less, same_term-less, less_term-less, some-within, compared-less, LessScene, scene-and, scene-at}
 
 -- ---- uses
 
