@@ -47,8 +47,8 @@ pub record IsSmall (most : ℕ) (t : Script) : Type 0 where
   pub first : AllByRecursion (ModelIsSmall most (schema_at t 0)) (schema_at t 0).models
   pub commands : (k : ℕ) (c : Command) → command_at t k ≡ Some c → CommandIsSmall most (schema_at t (suc k)) c
 
--- A field of truth values that start databases have, and that the initialiser of an added field reads, is still there. Where it is gone, a
--- formula that is counted may compare two of its values as terms, and that of an obligation compares them as truth values, which is larger.
+-- A field of truth values that start databases have, and that the initialiser of an added field reads, is still there. Where it is gone, what is
+-- counted compares two such values as terms, and takes some of such a value end by end; the formula of an obligation does neither, and is larger.
 abbrev pub StaysTruth : Script → Schema → Use → Type 0
 StaysTruth t s u = holds_truth t.start u.model u.field ≡ true → holds_truth s u.model u.field ≡ true
 

@@ -1,5 +1,5 @@
--- A script that takes away fields of truth values whose values stay in fields that it adds, and so owes a formula far larger than it was counted.
-use Rattle.std.specs.Prelude.{◌≡◌, ℕ, true, List, [], ◌∷◌, ◌++◌, None, Some, codes}
+-- Scripts that take away fields of truth values whose values stay in fields that they add, and so owe formulas far larger than was counted.
+use Rattle.std.specs.Prelude.{◌≡◌, ℕ, zero, suc, true, List, [], ◌∷◌, ◌++◌, None, Some, codes}
 use Rattle.sc_tree.specs.declared.exprs.CmpOp.TheVariants.{Eq}
 use Rattle.sc_tree.specs.declared.exprs.FilterOp.TheVariants.{Cmp}
 use Rattle.sc_schema.specs.declared.types.TBase.TheVariants as base
@@ -7,13 +7,14 @@ use Rattle.sc_schema.specs.declared.types.TTy.TheVariants.{Plain}
 use Rattle.sc_schema.specs.declared.rights.Kind.TheVariants as kind
 use Rattle.sc_schema.specs.declared.rights.Right.TheVariants.{Read}
 use Rattle.sc_schema.specs.declared.rights.Target.TheVariants as on
-use Rattle.sc_schema.specs.Trees.{Expr, var, get, within, if_expr, SetExpr, find, no_filters, filter_and, Policy, to_none, by_record, plain}
+use Rattle.sc_schema.specs.Trees.{Expr, var, just, get, within, both, if_expr, match_expr, SetExpr, find, no_filters, filter_and, Policy, to_none, by_record, plain}
 use Rattle.sc_schema.specs.Schema.{FieldInfo, Schema}
 use Rattle.sc_schema.specs.Commands.{Command, add_field, remove_field, update_field, schema_after}
 use Rattle.sc_schema.specs.Script.{Script}
 use Rattle.sc_duty.specs.declared.duty.Duty.{Duty}
+use Rattle.sc_duty.specs.Formulas.{written_out}
 use Rattle.sc_duty.specs.Duties.{formula_of}
-use Rattle.sc_duty.specs.Sizes.{size, policy_size, init_size}
+use Rattle.sc_duty.specs.Sizes.{size, policy_size, init_size_over, init_size}
 
 abbrev pub truth_field : ℕ → List ℕ → FieldInfo
 truth_field number name = record { number = number; name = name; ty = Plain base.Bool; read = to_none; write = to_none }
@@ -79,10 +80,28 @@ grown = record { start = start; commands = commands; schemas = after_all start c
 abbrev pub gain : Duty
 gain = record { command = 8; target = on.Field 0 2; right = Read; spot = None; kind = kind.Model 0 }
 
+-- ---- options of such values
+
+-- y, and so often more
+abbrev pub all_of : ℕ → Expr
+all_of zero = var 1 (codes "y")
+all_of (suc n) = both (var 1 (codes "y")) (all_of n)
+
+-- match some(x.f) with none -> x.b | some y -> if y && .. && y then x.b else x.b
+abbrev pub taken_apart : ℕ → Expr
+taken_apart f = match_expr (just (get x 0 f)) (get x 0 2) (codes "y") (if_expr (all_of 7) (get x 0 2) (get x 0 2))
+
+-- b is x.a, which goes; then field 3 takes b apart, field 4 takes field 3 apart, and field 5 field 4
+abbrev pub options : List Command
+options = added 2 (codes "b") (get x 0 0) ∷ remove_field 0 0 ∷ added 3 (codes "e") (taken_apart 2) ∷ added 4 (codes "f") (taken_apart 3) ∷ added 5 (codes "g") (taken_apart 4) ∷ []
+
 -- The last initialiser is counted as 255 and the policy as 131, and the formula of the last obligation has 1,149 nodes, more than three times the
 -- larger and five. Each further field of this kind makes what is counted twice as large and the formula four times: with five more an initialiser
--- is counted as 9,183, and the formula has 1,179,645 nodes.
+-- is counted as 9,183, and the formula has 1,179,645 nodes. Where options of such values are taken apart, what is counted as 1,023 has 27,855 nodes
+-- over the schema of start databases, and the more often y stands there, the more.
 pub record WorkedGrowth : Type 0 where
   pub last_field : init_size (last_schema start before) (Plain base.Bool) (plain (chosen_by 5)) ≡ 255
   pub last_right : policy_size (last_schema start commands) last_policy ≡ 131
   pub formula : size (formula_of grown gain) ≡ 1149
+  pub last_option : init_size (last_schema start options) (Plain base.Bool) (plain (taken_apart 4)) ≡ 1023
+  pub over_start : init_size_over start (written_out start (last_schema start options).added) (Plain base.Bool) (plain (taken_apart 4)) ≡ 27855

@@ -31,8 +31,8 @@ pub fn typed_formulas_are_small()
     ensures { TypedFormulasAreSmall }
 {}
 
-/// A script that removes fields of truth values whose values stay in added fields owes a formula
-/// that is larger: an initialiser is counted as 255, and the formula has 1,149 nodes.
+/// Scripts that remove fields of truth values whose values stay in added fields owe formulas that
+/// are larger: an initialiser is counted as 255, and the formula has 1,149 nodes.
 #[tactic(auto, using(crate::proofs::WorkedGrowth::worked_growth))]
 pub fn worked_growth()
     ensures { WorkedGrowth }
