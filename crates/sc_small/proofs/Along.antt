@@ -26,14 +26,12 @@ use Rattle.sc_proper.specs.Steady.{ReadsBelow}
 use Rattle.sc_proper.proofs.After.{read-weaken}
 use Rattle.sc_proper.proofs.Lists.{all-append, all-both, all-weaken}
 use Rattle.sc_small.specs.Asked.{holds_truth}
-use Rattle.sc_small.specs.Small.{StaysTruth, KeepsTruths}
+use Rattle.sc_small.specs.Small.{KeepsTruth, KeepsTruths}
 use Rattle.sc_small.proofs.Within.{Within, fields}
 use Rattle.sc_small.proofs.WithinSets.{FieldWithin, UseWithin}
 use Rattle.sc_small.proofs.Counted.{added-within}
-use Rattle.sc_small.proofs.Typed.{IsThere, init-there, there-below}
-
-abbrev pub field_use : ℕ → ℕ → Use
-field_use m f = record { model = m; field = f }
+use Rattle.sc_small.proofs.Staying.{type-stays}
+use Rattle.sc_small.proofs.Typed.{field_use, IsThere, init-there, there-below}
 
 -- a field that the script added
 abbrev pub IsAdded : List Added → Use → Type 0
@@ -227,6 +225,64 @@ truth-there s m f h =
       | Some ty ↦ λ e. (ty, refl)
     ] h
 
+-- a field of truth values that start databases have is still there
+abbrev pub StaysTruth : Script → Schema → Use → Type 0
+StaysTruth t s u = holds_truth t.start u.model u.field ≡ true → holds_truth s u.model u.field ≡ true
+
+-- if it was not added
+abbrev pub Stays : Script → Schema → Use → Type 0
+Stays t s u = (IsAdded s.added u → ⊥) → StaysTruth t s u
+
+module _ (t : Script) (is : IsScript t) (k : ℕ) (within : k ≤ count t) where
+  pub there-stays : (u : Use) → IsThere (schema_at t k) u → Stays t (schema_at t k) u
+  there-stays u own other e =
+      elim (type_of (schema_at t k) u.model u.field) as (λ (o : Option TTy). type_of (schema_at t k) u.model u.field ≡ o → is_some o ≡ true → holds_truth (schema_at t k) u.model u.field ≡ true) [
+        | None ↦ λ here none. cc
+        | Some ty ↦ λ here some.
+            elim (type-of-start t is k within u.model u.field ty here) [
+              | inl first ↦ sym (same-truth t.start (schema_at t k) u.model u.field ty first here) ∙ e
+              | inr added ↦ absurd (other added)
+            ]
+      ] refl own
+
+-- what the command does not take keeps its truth values
+truth-after : (t : Script) (s : Schema) (c : Command) (u : Use) → StaysTruth t s u → KeepsTruth t c u → StaysTruth t (schema_after s c) u
+truth-after t s c u stays keeps e =
+    let one = truth-there s u.model u.field (stays e) in
+    let later = type-stays s u.model u.field one.0 c one.1 (keeps e) in
+    sym (same-truth s (schema_after s c) u.model u.field one.0 one.1 later) ∙ stays e
+
+still-added : (s : Schema) (c : Command) (u : Use) → IsAdded s.added u → IsAdded (schema_after s c).added u
+still-added s c u h = added-step (λ added. IsAdded added u) s c h (λ m f init same. added-more s.added (record { model = m; field = f.number; init = init }) u h)
+
+-- an added field, whose initialiser reads fields that stay
+abbrev pub ReadsStay : Script → Schema → Added → Type 0
+ReadsStay t s a = AllByRecursion (Stays t s) (init_uses_of a.init)
+
+pub reads-stay : (t : Script) → IsScript t → KeepsTruths t → (k : ℕ) → k ≤ count t → AllByRecursion (ReadsStay t (schema_at t k)) (schema_at t k).added
+reads-stay t is keeps zero within = subst (AllByRecursion (ReadsStay t (schema_at t 0))) (sym is.nothing_added) tt
+reads-stay t is keeps (suc k) within =
+    let s : Schema = schema_at t k in
+    let early : k ≤ count t = omega (arith, within) in
+    let c = command-there t is k (omega (arith, within)) in
+    let after : Schema = schema_after s c.0 in
+    let before : AllByRecursion (ReadsStay t after) s.added
+    = all-both (ReadsStay t s) (λ (a : Added). AllByRecursion (KeepsTruth t c.0) (init_uses_of a.init)) (ReadsStay t after)
+    (λ a stay kept. all-both (Stays t s) (KeepsTruth t c.0) (Stays t after)
+    (λ u one two other. truth-after t s c.0 u (one (λ added. other (still-added s c.0 u added))) two) (init_uses_of a.init) stay kept) s.added
+    (reads-stay t is keeps k early) (keeps k c.0 c.1) in
+    subst (λ (u : Schema). AllByRecursion (ReadsStay t u) u.added) (sym (is.steps k c.0 c.1))
+    (added-step (AllByRecursion (ReadsStay t after)) s c.0 before
+    (λ m f init same.
+    let here : command_at t k ≡ Some (add_field m f init) = c.1 ∙ ap (λ (x : Command). Some x) same in
+    let nothing : (u : Use) → KeepsTruth t c.0 u = λ u. subst (λ (x : Command). KeepsTruth t x u) (sym same) (λ e taken. taken) in
+    all-append (ReadsStay t after) s.added ((record { model = m; field = f.number; init = init }) ∷ []) before (
+      all-weaken (IsThere s) (Stays t after)
+          (λ u own other. truth-after t s c.0 u (there-stays t is k early u own (λ added. other (still-added s c.0 u added))) (nothing u)) (init_uses_of init)
+          (init-there s m f.ty init (is.commands k (add_field m f init) here).2),
+      tt,
+    )))
+
 module _ (t : Script) (is : IsScript t) (keeps : KeepsTruths t) (j : ℕ) (within : j ≤ count t) where
   -- the schema after j commands
   abbrev pub now : Schema
@@ -234,7 +290,7 @@ module _ (t : Script) (is : IsScript t) (keeps : KeepsTruths t) (j : ℕ) (withi
 
   -- a field that was there, and is still if it holds truth values and was not added
   abbrev pub IsGood : Use → Type 0
-  IsGood u = (u.field < now.next_field) × ((IsAdded now.added u → ⊥) → StaysTruth t now u)
+  IsGood u = (u.field < now.next_field) × Stays t now u
 
   agree : (m f : ℕ) → (IsAdded now.added (field_use m f) → ⊥) → StaysTruth t now (field_use m f) → holds_truth t.start m f ≡ holds_truth now m f
   agree m f other stays =
@@ -254,23 +310,12 @@ module _ (t : Script) (is : IsScript t) (keeps : KeepsTruths t) (j : ℕ) (withi
 
   pub good-reads : AllByRecursion (λ (a : Added). AllByRecursion IsGood (init_uses_of a.init)) now.added
   good-reads =
-      all-both (ReadsBelow now.next_field) (λ (a : Added). AllByRecursion (StaysTruth t now) (init_uses_of a.init)) (λ (a : Added). AllByRecursion IsGood (init_uses_of a.init))
-      (λ a below stays. all-both (λ (u : Use). u.field < now.next_field) (StaysTruth t now) IsGood (λ u less truth. (less, λ other. truth)) (init_uses_of a.init) below stays) now.added
-      (reads-below t is j within) (keeps j within)
+      all-both (ReadsBelow now.next_field) (ReadsStay t now) (λ (a : Added). AllByRecursion IsGood (init_uses_of a.init))
+      (λ a below stay. all-both (λ (u : Use). u.field < now.next_field) (Stays t now) IsGood (λ u less own. (less, own)) (init_uses_of a.init) below stay) now.added
+      (reads-below t is j within) (reads-stay t is keeps j within)
 
   pub good-there : (uses : List Use) → AllByRecursion (IsThere now) uses → AllByRecursion IsGood uses
-  good-there uses h = all-weaken (IsThere now) IsGood (λ u own. (there-below now (is.proper j within) u own, λ other. still u own other)) uses h
-    where
-      still : (u : Use) → IsThere now u → (IsAdded now.added u → ⊥) → StaysTruth t now u
-      still u own other e =
-          elim (type_of now u.model u.field) as (λ (o : Option TTy). type_of now u.model u.field ≡ o → is_some o ≡ true → holds_truth now u.model u.field ≡ true) [
-            | None ↦ λ here none. cc
-            | Some ty ↦ λ here some.
-                elim (type-of-start t is j within u.model u.field ty here) [
-                  | inl first ↦ sym (same-truth t.start now u.model u.field ty first here) ∙ e
-                  | inr added ↦ absurd (other added)
-                ]
-          ] refl own
+  good-there uses h = all-weaken (IsThere now) IsGood (λ u own. (there-below now (is.proper j within) u own, there-stays t is j within u own)) uses h
 
   -- what stands for a field after n more commands, over the schema of start databases
   pub field-within : (n : ℕ) → j + n ≤ count t → (m f : ℕ) → IsGood (field_use m f)

@@ -2,6 +2,7 @@ pub mod Along
 pub mod Counted
 pub mod InForce
 pub mod Obligations
+pub mod Staying
 pub mod Typed
 pub mod TypedObligations
 pub mod TypedScript

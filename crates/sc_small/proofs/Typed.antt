@@ -19,6 +19,9 @@ use Rattle.sc_small.specs.Asked.{policy_uses_of}
 
 -- ---- uses
 
+abbrev pub field_use : ℕ → ℕ → Use
+field_use m f = record { model = m; field = f }
+
 module _ (s : Schema) where
   -- the schema has the field
   abbrev pub IsThere : Use → Type 0

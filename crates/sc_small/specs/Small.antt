@@ -5,7 +5,7 @@ use Rattle.sc_schema.specs.Trees.{Policy}
 use Rattle.sc_schema.specs.Schema.{FieldInfo, ModelInfo, Added, Schema}
 use Rattle.sc_schema.specs.Commands.{Command, create_model, delete_model, add_static, remove_static, add_principal, add_field, remove_field, update_field, weaken_field, update_model, weaken_model}
 use Rattle.sc_schema.specs.Uses.{Use, init_uses_of}
-use Rattle.sc_schema.specs.Script.{Script, schema_at, command_at, count, IsScript}
+use Rattle.sc_schema.specs.Script.{Script, schema_at, command_at, IsScript}
 use Rattle.sc_duty.specs.declared.duty.Duty.{Duty}
 use Rattle.sc_duty.specs.Duties.{obligations_of, formula_of}
 use Rattle.sc_duty.specs.Sizes.{size, policy_size, init_size, most_size}
@@ -47,13 +47,29 @@ pub record IsSmall (most : ℕ) (t : Script) : Type 0 where
   pub first : AllByRecursion (ModelIsSmall most (schema_at t 0)) (schema_at t 0).models
   pub commands : (k : ℕ) (c : Command) → command_at t k ≡ Some c → CommandIsSmall most (schema_at t (suc k)) c
 
--- A field of truth values that start databases have, and that the initialiser of an added field reads, is still there. Where it is gone, what is
--- counted compares two such values as terms, and takes some of such a value end by end; the formula of an obligation does neither, and is larger.
-abbrev pub StaysTruth : Script → Schema → Use → Type 0
-StaysTruth t s u = holds_truth t.start u.model u.field ≡ true → holds_truth s u.model u.field ≡ true
+-- the field goes with the command
+abbrev pub Takes : Command → Use → Type 0
+Takes (create_model info) u = ⊥
+Takes (delete_model m) u = u.model ≡ m
+Takes (add_static info) u = ⊥
+Takes (remove_static n) u = ⊥
+Takes (add_principal m) u = ⊥
+Takes (add_field m f init) u = ⊥
+Takes (remove_field m f) u = (u.model ≡ m) × (u.field ≡ f)
+Takes (update_field m f read write) u = ⊥
+Takes (weaken_field m f read write reason) u = ⊥
+Takes (update_model m create delete) u = ⊥
+Takes (weaken_model m create delete reason) u = ⊥
 
+-- if start databases have truth values in it
+abbrev pub KeepsTruth : Script → Command → Use → Type 0
+KeepsTruth t c u = holds_truth t.start u.model u.field ≡ true → Takes c u → ⊥
+
+-- No command removes a field of truth values that the initialiser of an added field reads. Where one is gone, what is counted compares two such
+-- values as terms, and takes some of such a value end by end; the formula of an obligation does neither, and is larger.
 abbrev pub KeepsTruths : Script → Type 0
-KeepsTruths t = (k : ℕ) → k ≤ count t → AllByRecursion (λ (a : Added). AllByRecursion (StaysTruth t (schema_at t k)) (init_uses_of a.init)) (schema_at t k).added
+KeepsTruths t =
+    (k : ℕ) (c : Command) → command_at t k ≡ Some c → AllByRecursion (λ (a : Added). AllByRecursion (KeepsTruth t c) (init_uses_of a.init)) (schema_at t k).added
 
 -- An obligation has two quantifiers and a conjunction with two policies, or three and two conjunctions with two policies and what a use reads.
 abbrev pub FormulasAreSmall : Type 0
