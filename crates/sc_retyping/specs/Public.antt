@@ -1,0 +1,3 @@
+-- The words that speak of trees of schemas that are typed again.
+pub use Rattle.sc_retyping.specs.Room.{HasRoom, IsSmall}
+pub use Rattle.sc_retyping.specs.Laws.{TreesAreResolved, TreesAreTyped}

@@ -1,0 +1,31 @@
+-- Schemas within the limits of specifications. Typing gives no others, also by commands.
+use Rattle.std.specs.Prelude.{◌≤◌, length}
+use Rattle.std.specs.List.{AllByRecursion}
+use Rattle.sc_ast.specs.Limits.{most_statics, most_models, most_fields}
+use Rattle.sc_schema.specs.Trees.{Policy}
+use Rattle.sc_schema.specs.Schema.{FieldInfo, ModelInfo, Schema}
+use Rattle.sc_duty.specs.Formulas.{nothing_written}
+use Rattle.sc_duty.specs.Sizes.{policy_size_over}
+use Rattle.sc_specs.specs.Sizes.{most_size}
+
+-- there are no more statics, models and fields of a model than a specification may have
+pub record HasRoom (s : Schema) : Type 0 where
+  pub statics : length s.statics ≤ most_statics
+  pub models : length s.models ≤ most_models
+  pub fields : AllByRecursion (λ (m : ModelInfo). length m.fields ≤ most_fields) s.models
+
+-- ---- sizes, where added fields count as fields like others
+
+module _ (s : Schema) where
+  abbrev pub PolicyIsSmall : Policy → Type 0
+  PolicyIsSmall p = policy_size_over s nothing_written p ≤ most_size
+
+  abbrev pub FieldIsSmall : FieldInfo → Type 0
+  FieldIsSmall f = PolicyIsSmall f.read × PolicyIsSmall f.write
+
+  abbrev pub ModelIsSmall : ModelInfo → Type 0
+  ModelIsSmall m = PolicyIsSmall m.create × PolicyIsSmall m.delete × AllByRecursion FieldIsSmall m.fields
+
+  -- so are all policies of the schema
+  abbrev pub IsSmall : Type 0
+  IsSmall = AllByRecursion ModelIsSmall s.models
