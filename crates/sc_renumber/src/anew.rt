@@ -1,38 +1,39 @@
 //! The schema of the tree of a schema.
 
-ghost use Rattle.std.specs.Prelude.{◌≡◌, ◌<◌, ◌^◌, [], IfOk, OnOk, Ok};
+ghost use Rattle.std.specs.Prelude.{◌≡◌, ◌≢◌, ◌<◌, ◌^◌, [], Err, IfErr, IfOk, OnOk, Ok};
 ghost use Rattle.sc_schema.specs.Proper.{IsProper};
 ghost use Rattle.sc_schema.specs.SchemaViews.{schema_of};
-ghost use Rattle.sc_typing.specs.Names.{plain_of};
+ghost use Rattle.sc_typing.specs.declared.type_err.TypeErr.TheVariants.{OutOfMemory};
 ghost use Rattle.sc_specs.specs.Specs.{typed_spec};
 ghost use Rattle.sc_proper.specs.Steady.{IsSteady};
 ghost use Rattle.sc_records.specs.Renumbered.{HasNewNumbers};
 ghost use Rattle.sc_renumbered.specs.Anew.{IsAnew};
 ghost use Rattle.sc_retyped.specs.Anew.{HasPoliciesAnew, KeepsRights};
 ghost use Rattle.sc_retyped.specs.Told.{IsTold};
+ghost use Rattle.sc_retyping.specs.Room.{HasRoom, IsSmall};
 ghost use Rattle.sc_scripts.specs.Counted.{counted};
 ghost use Rattle.sc_written.specs.Specs.{written_spec};
 
 use sc_retyped::{counts_stay, policies_come_anew, rights_stay, schemas_come_anew, specs_are_told};
+use sc_retyping::trees_are_typed;
 use sc_schema::Schema;
 use sc_scripts::type_spec;
 use sc_spec_of::spec_of;
 use sc_tree::Spec;
+use sc_typing::TypeErr;
 use sc_written::{specs_come_back, written_is_stripped};
-use std::alloc::{AllocError, Global};
+use std::alloc::Global;
 
-/// The schema of a specification that is well typed. One that is not counts as memory that is not
-/// there.
+/// The schema of a specification, or the first fault of it.
 #[tactic(auto, unfolding(sc_typing::specs::Names::plain_of))]
-fn schema_of_tree(alloc: Global, spec: &Spec) -> Result<Schema, AllocError>
+fn schema_of_tree(alloc: Global, spec: &Spec) -> Result<Schema, TypeErr>
     ensures typed { IfOk result (λ s. typed_spec counted spec.now ≡ Ok (schema_of s)) }
+    ensures refused { IfErr result (λ e. e ≢ OutOfMemory
+        → typed_spec counted spec.now ≡ Err e) }
     ensures steady { IfOk result (λ s. IsSteady (schema_of s)) }
     ensures nothing_added { IfOk result (λ s. (schema_of s).added ≡ []) }
 {
-    match type_spec(alloc, spec) {
-        Ok(s) => Ok(s),
-        Err(_) => Err(AllocError),
-    }
+    type_spec(alloc, spec)
 }
 
 /// The next numbers of a schema have 32 bits.
@@ -48,8 +49,10 @@ fn next_numbers_fit(s: &Schema)
 /// fields have the numbers from 0 on in the order of the schema, the fields through all models. It
 /// is what typing gives of that tree, it is proper, and no field of it is an added one. Its
 /// policies are those of the schema with the new numbers, and give the rights that they gave, where
-/// the schema is told by its tree, as one is that typing gave, also after commands.
-pub fn renumber(alloc: Global, s: &Schema) -> Result<Schema, AllocError>
+/// the schema is told by its tree, as one is that typing gave, also after commands. What typing of
+/// the tree refuses is the answer; of a proper schema that is told by its tree and within the
+/// limits it refuses nothing, so only want of memory is left.
+pub fn renumber(alloc: Global, s: &Schema) -> Result<Schema, TypeErr>
     ensures same_tree { IfOk result (λ anew. written_spec (schema_of anew)
         ≡ written_spec (schema_of s.now)) }
     ensures numbered { IfOk result (λ anew. typed_spec counted (written_spec (schema_of s.now))
@@ -64,7 +67,13 @@ pub fn renumber(alloc: Global, s: &Schema) -> Result<Schema, AllocError>
         → IsTold (schema_of s.now) → HasPoliciesAnew (schema_of s.now) (schema_of anew)) }
     ensures rights { IfOk result (λ anew. IsProper (schema_of s.now)
         → IsTold (schema_of s.now) → KeepsRights (schema_of s.now) (schema_of anew)) }
+    ensures refused { IfErr result (λ e. e ≢ OutOfMemory
+        → typed_spec counted (written_spec (schema_of s.now)) ≡ Err e) }
+    ensures memory_alone { IfErr result (λ e. IsProper (schema_of s.now)
+        → IsTold (schema_of s.now) → HasRoom (schema_of s.now) → IsSmall (schema_of s.now)
+        → e ≡ OutOfMemory) }
 {
+    trees_are_typed();
     let spec = spec_of(alloc, s)?;
     let anew = schema_of_tree(alloc, &spec)?;
     next_numbers_fit(&anew);

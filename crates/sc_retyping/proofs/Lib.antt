@@ -1,7 +1,12 @@
 pub mod Alike
+pub mod Commands
 pub mod Goes
+pub mod Kept
 pub mod Numbers
 pub mod Resolved
+pub mod Room
+pub mod RoomAfter
 pub mod Sizes
+pub mod SmallAfter
 pub mod Typed
 pub mod Within

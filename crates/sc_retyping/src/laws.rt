@@ -1,5 +1,6 @@
 //! Laws over the definitions alone. Each is the contract of a function that does nothing.
 
+ghost use Rattle.sc_retyping.specs.Kept.{CommandsKeepRoom, ScriptsKeepRoom, SpecsHaveRoom};
 ghost use Rattle.sc_retyping.specs.Laws.{TreesAreResolved, TreesAreTyped};
 
 /// No rule but those on sizes refuses the tree of a proper schema that is told by it and within
@@ -13,4 +14,19 @@ pub fn trees_are_resolved()
 #[tactic(auto, using(crate::proofs::Typed::trees_are_typed))]
 pub fn trees_are_typed()
     ensures { TreesAreTyped }
+{}
+
+/// The schema of a specification is within the limits.
+pub fn specs_have_room()
+    ensures { SpecsHaveRoom }
+{}
+
+/// A proper schema within the limits is so after each command that typing gives.
+pub fn commands_keep_room()
+    ensures { CommandsKeepRoom }
+{}
+
+/// So is each schema on the way of a script that is typed over such a one.
+pub fn scripts_keep_room()
+    ensures { ScriptsKeepRoom }
 {}

@@ -7,4 +7,6 @@
 
 mod laws;
 
-pub use laws::{trees_are_resolved, trees_are_typed};
+pub use laws::{
+    commands_keep_room, scripts_keep_room, specs_have_room, trees_are_resolved, trees_are_typed,
+};

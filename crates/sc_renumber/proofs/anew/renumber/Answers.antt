@@ -1,11 +1,12 @@
-use Rattle.std.proofs.Common.{◌≡◌, ap, ◌∙◌, subst, arith}
-use Rattle.std.specs.Prelude.{Ok}
+use Rattle.std.proofs.Common.{rules, ◌≡◌, ap, sym, ◌∙◌, subst, arith}
+use Rattle.std.specs.Prelude.{Ok, Err}
 use Rattle.sc_tree.specs.declared.models.Spec.{Spec}
 use Rattle.sc_tree.specs.Stripped.{stripped_spec}
 use Rattle.sc_schema.specs.SchemaViews.{schema_of}
 use Rattle.sc_specs.specs.Specs.{typed_spec}
 use Rattle.sc_scripts.specs.Counted.{counted}
 use Rattle.sc_written.specs.Specs.{written_spec}
+use Rattle.sc_renumber.proofs.Refusals.{memory-alone}
 use Rattle.sc_renumber.proofs.anew.renumber.Goals as goal
 
 pub returns-clause-same_tree : goal.returns-clause-same_tree
@@ -41,3 +42,11 @@ returns-clause-rights c = λ proper told.
     let typed : typed_spec counted (written_spec (schema_of c.args.s.now)) ≡ Ok (schema_of c.in_ok-anew.anew)
     = subst (λ (z : Spec). typed_spec counted z ≡ Ok (schema_of c.in_ok-anew.anew)) c.in_ok-spec.ensures c.in_ok-anew.ensures.typed in
     c.rights_stay.ensures counted (schema_of c.args.s.now) (schema_of c.in_ok-anew.anew) proper told typed
+
+pub returns-in_err-anew-clause-memory_alone : goal.returns-in_err-anew-clause-memory_alone
+returns-in_err-anew-clause-memory_alone c =
+    let same : c.from_residual-in_err-anew.result ≡ Err c.in_err-anew.field-0.0 = search rules in
+    rw same λ proper told room small.
+    let k = c.trees_are_typed.ensures (schema_of c.args.s.now) proper told room small in
+    let typed : typed_spec counted c.in_ok-spec.spec ≡ Ok k.0 = subst (λ (z : Spec). typed_spec counted z ≡ Ok k.0) (sym c.in_ok-spec.ensures) k.1 in
+    memory-alone (typed_spec counted c.in_ok-spec.spec) c.in_err-anew.field-0.0 k.0 c.in_err-anew.ensures.refused typed

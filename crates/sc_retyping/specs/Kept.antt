@@ -1,0 +1,33 @@
+-- Schemas that typing gives are within the limits, and stay so under each command.
+use Rattle.std.specs.Prelude.{◌≡◌, Ok}
+use Rattle.std.specs.List.{AllByRecursion}
+use Rattle.sc_tree.specs.declared.models.Spec.{Spec}
+use Rattle.sc_tree.specs.declared.commands.Command as written
+use Rattle.sc_tree.specs.declared.commands.Script as written_script
+use Rattle.sc_schema.specs.Schema.{Schema}
+use Rattle.sc_schema.specs.Commands.{Command}
+use Rattle.sc_schema.specs.Proper.{IsProper}
+use Rattle.sc_schema.specs.Script.{Script}
+use Rattle.sc_specs.specs.Specs.{typed_spec}
+use Rattle.sc_commands.specs.Commands.{typed_command}
+use Rattle.sc_commands.specs.Scripts.{typed_script}
+use Rattle.sc_proper.specs.Literals.{CommandHasLiterals}
+use Rattle.sc_proper.specs.Steady.{IsSteady}
+use Rattle.sc_scripts.specs.Counted.{counted}
+use Rattle.sc_retyping.specs.Room.{HasRoom, IsSmall}
+
+-- the schema of a specification
+abbrev pub SpecsHaveRoom : Type 0
+SpecsHaveRoom = (spec : Spec) (s : Schema) → typed_spec counted spec ≡ Ok s → HasRoom s × IsSmall s
+
+-- the schema after a command, where both are proper
+abbrev pub CommandsKeepRoom : Type 0
+CommandsKeepRoom =
+    (s after : Schema) (c : written.Command) (command : Command) → IsProper s → IsProper after → HasRoom s → IsSmall s → typed_command counted s c ≡ Ok (after, command)
+    → HasRoom after × IsSmall after
+
+-- all on the way of a script over a steady schema, where its literals are values
+abbrev pub ScriptsKeepRoom : Type 0
+ScriptsKeepRoom =
+    (s : Schema) (script : written_script.Script) (t : Script) → IsSteady s → HasRoom s → IsSmall s → AllByRecursion CommandHasLiterals t.commands
+    → typed_script counted s script ≡ Ok t → AllByRecursion (λ (u : Schema). HasRoom u × IsSmall u) t.schemas
