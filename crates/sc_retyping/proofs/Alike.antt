@@ -1,13 +1,12 @@
 -- Values over two schemas that are alike: their formulas have the same sizes, whatever the numbers of fields, models and sorts are.
-use Rattle.std.proofs.Common.{◌≡◌, ℕ, zero, suc, ◌+◌, Bool, true, false, not, ◌||◌, List, [], ◌∷◌, ◌++◌, refl, ap, sym, ◌∙◌, subst, arith}
+use Rattle.std.proofs.Common.{◌≡◌, ℕ, zero, suc, Bool, true, false, not, ◌||◌, List, [], ◌∷◌, ◌++◌, refl, ap, sym, ◌∙◌, subst, arith}
 use Rattle.std.specs.Prelude.{fold, slice_index_or, if◌then◌else◌}
-use Rattle.std.specs.Option.{option_map_or}
 use Rattle.sc_tree.specs.declared.exprs.CmpOp.{CmpOp}
 use Rattle.sc_tree.specs.declared.exprs.CmpOp.TheVariants.{Eq, Ne, Lt, Le, Gt, Ge}
 use Rattle.sc_schema.specs.Schema.{Schema}
 use Rattle.sc_formula.specs.Trees.{Term, app, Formula, no, equal, less, has, flag, present}
 use Rattle.sc_duty.specs.Structures.{function_of, relation_of}
-use Rattle.sc_duty.specs.Cases.{Condition, constant, atom, and_if, or_if, exists_if, all_if, any_if, chosen, same_condition, Cases, at_term, held, truth, among, none, some, choice, continued, at_ends, of_term, at_terms, is_present, of_option, end_holds, condition_of, end_has, has_term, same_term, less_term, is_truth, some_of, are_equal, compared}
+use Rattle.sc_duty.specs.Cases.{Condition, constant, atom, and_if, exists_if, all_if, any_if, chosen, same_condition, Cases, at_term, held, truth, among, none, some, choice, continued, at_ends, of_term, at_terms, is_present, of_option, end_holds, condition_of, end_has, has_term, same_term, less_term, is_truth, some_of, are_equal, compared}
 use Rattle.sc_duty.specs.Formulas.{Scene}
 use Rattle.sc_duty.specs.Sizes.{term_size, size}
 

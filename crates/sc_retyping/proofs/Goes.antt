@@ -30,7 +30,6 @@ use Rattle.sc_written.specs.Trees.{written_policy}
 use Rattle.sc_written.specs.Specs.{written_base, written_field, written_model, written_type}
 use Rattle.sc_records.specs.Renumbered.{new_model}
 use Rattle.sc_renumbered.proofs.Places.{ModelsGet}
-use Rattle.sc_renumbered.specs.Anew.{renumbered_base, renumbered_type}
 use Rattle.sc_retyped.proofs.Exprs.{then-ok}
 use Rattle.sc_retyped.proofs.Made.{defs, IsFieldGood, IsModelGood}
 

@@ -1,8 +1,7 @@
 -- What typing adds to a schema has room: each part is refused that is one too many.
-use Rattle.std.proofs.Common.{◌≡◌, ◌==◌, ℕ, ◌+◌, ◌<◌, ◌≤◌, Bool, true, false, not, cond, List, [], ◌∷◌, ◌++◌, length, map, refl, sym, ap, ◌∙◌, subst, arith, length-append}
-use Rattle.std.specs.Prelude.{Option, Some, None, Ok, Err, ltb, if◌then◌else◌}
-use Rattle.std.specs.List.{AllByRecursion, IsDistinct, find, list_any}
-use Rattle.std.specs.Option.{option_map_or}
+use Rattle.std.proofs.Common.{◌≡◌, ℕ, ◌+◌, ◌<◌, ◌≤◌, Bool, true, false, List, [], ◌∷◌, ◌++◌, length, refl, sym, ap, ◌∙◌, subst, arith, length-append}
+use Rattle.std.specs.Prelude.{Ok, Err, ltb, if◌then◌else◌}
+use Rattle.std.specs.List.{AllByRecursion, list_any}
 use Rattle.std.specs.Str.{bytes_eq}
 use Rattle.std.proofs.lemmas.Bool.{ltb-true}
 use Rattle.sc_ast.specs.Limits.{most_statics, most_models, most_fields}
@@ -14,7 +13,6 @@ use Rattle.sc_schema.specs.Trees.{Name}
 use Rattle.sc_schema.specs.Schema.{FieldInfo, ModelInfo, Schema}
 use Rattle.sc_schema.specs.Commands.{add_static, schema_after}
 use Rattle.sc_typing.specs.declared.type_err.TypeErr.TheVariants.{Crowded}
-use Rattle.sc_typing.specs.Outcome.{◌>>=◌}
 use Rattle.sc_specs.specs.declared.stage.Stage.{Stage}
 use Rattle.sc_specs.specs.declared.stage.Stage.TheVariants.{Types, Policies}
 use Rattle.sc_specs.specs.InTurn.{in_turn}

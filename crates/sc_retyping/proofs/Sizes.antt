@@ -1,11 +1,10 @@
 -- By induction on an expression and a set that are well typed: with other numbers of the same things they become formulas of the same sizes.
-use Rattle.std.proofs.Common.{◌≡◌, ℕ, suc, Bool, true, false, not, List, [], ◌∷◌, ◌++◌, refl, ap, sym, ◌∙◌, subst, arith}
+use Rattle.std.proofs.Common.{◌≡◌, ℕ, suc, Bool, true, false, not, [], ◌∷◌, ◌++◌, refl, ap, sym, ◌∙◌, arith}
 use Rattle.std.specs.Prelude.{Some, ◌==◌, if◌then◌else◌}
 use Rattle.std.specs.Option.{option_map_or}
 use Rattle.std.proofs.lemmas.Bool.{eq-eqb}
 use Rattle.sc_tree.specs.declared.exprs.FilterOp.{FilterOp}
 use Rattle.sc_tree.specs.declared.exprs.FilterOp.TheVariants.{Cmp, Has}
-use Rattle.sc_schema.specs.declared.types.TBase.{TBase}
 use Rattle.sc_schema.specs.declared.types.TBase.TheVariants as base
 use Rattle.sc_schema.specs.declared.types.TTy.{TTy}
 use Rattle.sc_schema.specs.declared.types.TTy.TheVariants.{Plain, Set, Opt}
@@ -16,7 +15,7 @@ use Rattle.sc_eval.specs.Meaning.{same_truth}
 use Rattle.sc_formula.specs.Trees.{Term, Formula}
 use Rattle.sc_formula.specs.Trees as formula
 use Rattle.sc_duty.specs.Structures.{sort_of}
-use Rattle.sc_duty.specs.Cases.{Condition, constant, atom, and_if, all_if, chosen, same_condition, Cases, at_term, held, truth, none, choice, of_term, at_terms, of_option, condition_of, has_term, same_term, less_term, is_truth_type}
+use Rattle.sc_duty.specs.Cases.{Condition, constant, atom, and_if, all_if, chosen, same_condition, Cases, at_term, none, choice, of_term, at_terms, of_option, condition_of, has_term, same_term, less_term, is_truth_type}
 use Rattle.sc_duty.specs.Formulas.{Who, record_at, of_each_kind, of_model, is_static, Scene, nothing_written, field_cases, passes, next_variable, cases_of, is_in, items_in, filters_at}
 use Rattle.sc_duty.specs.Sizes.{term_size, size, row, other, policy_size_over}
 use Rattle.sc_retyping.proofs.Numbers.{expr_by, set_by, items_by, filters_by, policy_by}

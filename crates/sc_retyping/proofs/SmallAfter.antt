@@ -1,5 +1,5 @@
 -- A schema with small policies has small ones after each command that typing gives: what stays has the size that it had.
-use Rattle.std.proofs.Common.{◌≡◌, ◌==◌, ℕ, ◌≤◌, Bool, true, false, not, cond, List, [], ◌∷◌, ◌++◌, length, map, refl, sym, ap, ◌∙◌, subst, arith}
+use Rattle.std.proofs.Common.{◌≡◌, ◌==◌, ℕ, Bool, true, false, not, cond, List, [], ◌∷◌, length, refl, sym, ap, ◌∙◌, subst, arith}
 use Rattle.std.specs.Prelude.{Option, Some, None, Ok, IfSome, filter, option_and_then}
 use Rattle.std.specs.List.{AllByRecursion, find}
 use Rattle.std.specs.Option.{option_map}
@@ -12,18 +12,18 @@ use Rattle.sc_schema.specs.declared.types.TTy.{TTy}
 use Rattle.sc_schema.specs.Trees.{Policy}
 use Rattle.sc_schema.specs.Schema.{FieldInfo, ModelInfo, Schema, field_in, model_in, model_of, type_of}
 use Rattle.sc_schema.specs.Typing.{IsField, IsModel, IsPolicy}
-use Rattle.sc_schema.specs.Commands.{Command, create_model, delete_model, add_static, remove_static, add_principal, add_field, remove_field, update_field, weaken_field, update_model, weaken_model, change_field, change_model, given_or, schema_after, with_field, with_field_policies, with_model_policies, without_field}
+use Rattle.sc_schema.specs.Commands.{Command, create_model, delete_model, add_static, remove_static, add_principal, add_field, remove_field, update_field, weaken_field, update_model, weaken_model, change_model, schema_after, with_field, with_field_policies, with_model_policies, without_field}
 use Rattle.sc_schema.specs.Proper.{IsProper}
 use Rattle.sc_specs.specs.declared.stage.Stage.TheVariants.{Types, Policies}
-use Rattle.sc_specs.specs.Models.{created_model, policy_over, typed_model, with_names, with_typed}
+use Rattle.sc_specs.specs.Models.{created_model, policy_over, with_names, with_typed}
 use Rattle.sc_specs.specs.Sizes.{are_small, model_places, model_sizes}
 use Rattle.sc_commands.specs.Commands.{command_is_small, command_places, command_sizes, given_places, given_sizes}
 use Rattle.sc_commands.specs.Resolved.{given, resolved}
 use Rattle.sc_duty.specs.Formulas.{nothing_written}
 use Rattle.sc_duty.specs.Sizes.{policy_size, policy_size_over}
 use Rattle.sc_scripts.specs.Counted.{counted}
-use Rattle.sc_proper.proofs.Grown.{all-changed, all-fields-changed, changed_to, fields-more, given-is, is-changed, same-number, types-changed, with_policies}
-use Rattle.sc_proper.proofs.Lists.{all-append, all-filter, all-weaken}
+use Rattle.sc_proper.proofs.Grown.{all-changed, all-fields-changed, changed_to, fields-more, given-is, is-changed, same-number, types-changed}
+use Rattle.sc_proper.proofs.Lists.{all-append, all-filter}
 use Rattle.sc_proper.proofs.Lookups.{find-changed, find-more, type_in}
 use Rattle.sc_proper.proofs.NewModel.{model-parts}
 use Rattle.sc_proper.proofs.Resolves.{bound, ok-same}
@@ -32,7 +32,7 @@ use Rattle.sc_retyping.proofs.Commands.{IsMade, is-made}
 use Rattle.sc_retyping.proofs.Numbers.{field_itself, itself, policy-itself}
 use Rattle.sc_retyping.proofs.Room.{made-long}
 use Rattle.sc_retyping.proofs.Sizes.{HasFieldsBy, policy-same}
-use Rattle.sc_retyping.proofs.Within.{IsWithin, field-back, model-back, model-placed, policy-back, small-back}
+use Rattle.sc_retyping.proofs.Within.{field-back, model-back, model-placed, policy-back, small-back}
 
 -- ---- what a command gives is small
 

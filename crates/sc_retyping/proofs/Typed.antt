@@ -1,5 +1,5 @@
 -- The policies of a schema that stands beside one with small policies are small, so no rule refuses the tree.
-use Rattle.std.proofs.Common.{◌≡◌, ℕ, ◌+◌, ◌≤◌, List, [], ◌∷◌, ◌++◌, length, map, refl, sym, ap, ◌∙◌, subst, arith}
+use Rattle.std.proofs.Common.{◌≡◌, ℕ, ◌+◌, ◌≤◌, List, [], ◌∷◌, length, refl, ap, ◌∙◌, arith}
 use Rattle.std.specs.Prelude.{Option, Some, None, Ok, max, min, option_and_then}
 use Rattle.std.specs.List.{AllByRecursion, flat_map}
 use Rattle.std.specs.Option.{option_map}
@@ -11,7 +11,7 @@ use Rattle.sc_schema.specs.Schema.{FieldInfo, ModelInfo, Added, Schema, field_in
 use Rattle.sc_schema.specs.Typing.{IsField, IsModel, IsPolicy}
 use Rattle.sc_schema.specs.Proper.{IsProper}
 use Rattle.sc_specs.specs.Sizes.{field_sizes, model_places, model_sizes, models_are_small, most_size}
-use Rattle.sc_specs.specs.Specs.{resolved_spec, typed_spec}
+use Rattle.sc_specs.specs.Specs.{typed_spec}
 use Rattle.sc_written.specs.Specs.{written_spec}
 use Rattle.sc_records.specs.Renumbered.{new_field, new_model}
 use Rattle.sc_renumbered.specs.Anew.{renumbered_type}
@@ -21,12 +21,11 @@ use Rattle.sc_duty.specs.Formulas.{nothing_written, written_out}
 use Rattle.sc_duty.specs.Sizes.{policy_size, policy_size_over}
 use Rattle.sc_scripts.specs.Counted.{counted}
 use Rattle.sc_proper.proofs.Lists.{all-append}
-use Rattle.sc_retyped.specs.Told.{IsTold}
 use Rattle.sc_retyped.proofs.Exprs.{then-ok}
 use Rattle.sc_retyped.proofs.Beside.{AreFieldsBeside, AreModelsBeside}
 use Rattle.sc_retyped.proofs.Found.{field-beside}
 use Rattle.sc_retyping.specs.Laws.{TreesAreResolved, TreesAreTyped}
-use Rattle.sc_retyping.specs.Room.{FieldIsSmall, HasRoom, IsSmall, ModelIsSmall, PolicyIsSmall}
+use Rattle.sc_retyping.specs.Room.{FieldIsSmall, ModelIsSmall, PolicyIsSmall}
 use Rattle.sc_retyping.proofs.Resolved.{Moved, resolves}
 use Rattle.sc_retyping.proofs.Sizes.{HasFieldsBy, policy-same}
 use Rattle.sc_retyping.proofs.Within.{IsWithin, small-all}
