@@ -61,20 +61,24 @@ module _ (g : Signature) (nodes : List Node) (shapes : List Shape) (listed : Lis
   pub found_there : (w m : Work) (p : Test) (o : Option ℕ) → G w m p o → IsThere m.board o
   found_there w m p o h = may_there g nodes shapes listed m.board p o h.means
 
-  -- a connective
+  -- a connective, whose right part came first
   pub two_gates : (op : Bool → Bool → Bool) (w m1 m2 n : Work) (variables arguments : List ℕ) (number number' : ℕ) (a b : Formula) (left right found : Option ℕ) → IsReady g nodes shapes listed w
       → AreOnes w.board.terms variables → AreOnes w.board.terms arguments → number' ≡ number + quantifiers a
-      → G w m1 (part_test g w.board.terms listed number variables arguments a) left → G m1 m2 (part_test g m1.board.terms listed number' variables arguments b) right
+      → G w m1 (part_test g w.board.terms listed number' variables arguments b) right → G m1 m2 (part_test g m1.board.terms listed number variables arguments a) left
       → IsJoined m2.board n.board op left right found → n.memo.made.entries ≡ m2.memo.made.entries → n.missing.items ≡ m2.missing.items
       → G w n (λ i h. op (part_test g w.board.terms listed number variables arguments a i h) (part_test g w.board.terms listed (number + quantifiers a) variables arguments b i h)) found
-  two_gates op w m1 m2 n variables arguments number number' a b left right found ready v u e l r j m is =
+  two_gates op w m1 m2 n variables arguments number number' a b left right found ready v u e r l j m is =
       let p : Test = part_test g w.board.terms listed number variables arguments a in
       let q : Test = part_test g w.board.terms listed (number + quantifiers a) variables arguments b in
-      let q' : Test = part_test g m1.board.terms listed number' variables arguments b in
-      let same : (i : GroundTerm → Bool) (h : GroundAtom → Bool) → q' i h ≡ q i h =
-      λ i h. test_kept g w.board.terms m1.board.terms listed number' variables arguments b l.grows.terms ready.ones v u i h ∙ ap (λ k. part_test g w.board.terms listed k variables arguments b i h) e in
-      joined g nodes shapes listed op p q (λ i h. op (p i h) (q i h)) w m2 n left right found (grows_both w.board m1.board m2.board l.grows r.grows) r.ready
-      (may_later g nodes shapes listed m1.board m2.board p left r.grows l.means) (may_same g nodes shapes listed m2.board q' q right same r.means) j m is (λ i h. refl)
+      let p' : Test = part_test g m1.board.terms listed number variables arguments a in
+      let q' : Test = part_test g w.board.terms listed number' variables arguments b in
+      let left_same : (i : GroundTerm → Bool) (h : GroundAtom → Bool) → p' i h ≡ p i h =
+      λ i h. test_kept g w.board.terms m1.board.terms listed number variables arguments a r.grows.terms ready.ones v u i h in
+      let right_same : (i : GroundTerm → Bool) (h : GroundAtom → Bool) → q' i h ≡ q i h =
+      λ i h. ap (λ k. part_test g w.board.terms listed k variables arguments b i h) e in
+      joined g nodes shapes listed op p q (λ i h. op (p i h) (q i h)) w m2 n left right found (grows_both w.board m1.board m2.board r.grows l.grows) l.ready
+      (may_same g nodes shapes listed m2.board p' p left left_same l.means)
+      (may_later g nodes shapes listed m1.board m2.board q right l.grows (may_same g nodes shapes listed m1.board q' q right right_same r.means)) j m is (λ i h. refl)
 
   -- terms at one more number
   terms_more : (xs ys : List TermNode) (ids : List ℕ) (t : ℕ) (u : GroundTerm) → Extends xs ys → AreOnes xs ids → term_of ys t ≡ u → terms_at ys (ids ++ t ∷ []) ≡ terms_at xs ids ++ u ∷ []

@@ -85,9 +85,16 @@ pub(crate) fn make_both(
         above.entry.number above.entry.variables.now above.entry.arguments.now
         (both (formula_of source.entry.arena.now a) (formula_of source.entry.arena.now b)))) }
 {
-    let left = work.seek(alloc, source, a, above)?;
-    let number = number_after(above.number, source.shapes[a as usize].quantifiers)?;
+    // What waits last is made first, and the numbers of inputs, by which a search goes, follow that
+    // order: so the right part is sought first, and the left one, which may be made at once, when
+    // that is there.
+    let passed = source.shapes[a as usize].quantifiers;
+    let number = number_after(above.number, passed)?;
     let right = work.seek(alloc, source, b, Above { number, ..above })?;
+    if right.is_none() {
+        return Ok(None);
+    }
+    let left = work.seek(alloc, source, a, above)?;
     let gate = join_both(&mut work.board, left, right)?;
     Ok(gate)
 }
@@ -114,10 +121,14 @@ pub(crate) fn make_either(
         above.entry.number above.entry.variables.now above.entry.arguments.now
         (either (formula_of source.entry.arena.now a) (formula_of source.entry.arena.now b)))) }
 {
-    let left = work.seek(alloc, source, a, above)?;
+    // As with a conjunction.
     let passed = source.shapes[a as usize].quantifiers;
     let number = number_after(above.number, passed)?;
     let right = work.seek(alloc, source, b, Above { number, ..above })?;
+    if right.is_none() {
+        return Ok(None);
+    }
+    let left = work.seek(alloc, source, a, above)?;
     let gate = join_either(&mut work.board, left, right)?;
     Ok(gate)
 }
@@ -193,9 +204,6 @@ fn make_one(
         arguments: arguments.as_slice(),
     };
     let body = work.seek(alloc, source, a, below)?;
-    if body.is_none() {
-        return Ok(None);
-    }
     let absent = work.board.input(Input::There(t), false)?;
     let gate = join_either(&mut work.board, Some(absent), body)?;
     Ok(gate)

@@ -25,9 +25,6 @@ pub join_either-requires-clause-left : goal.join_either-requires-clause-left
 join_either-requires-clause-left c =
     (c.in_ok-absent.ensures.means c.args.source.arena.now (one_kept c.args.work.now.board.terms _ c.args.t c.in_ok-body.ensures.grows.terms c.requires.term)).within
 
-pub returns-then-is_none : goal.returns-then-is_none
-returns-then-is_none c = record { ready = c.in_ok-body.ensures.ready; grows = c.in_ok-body.ensures.grows; means = tt }
-
 pub returns : goal.returns
 returns c =
     let s = c.args.source in
