@@ -24,7 +24,7 @@ pub enum Shape {
     Ranks(u32, bool),
 }
 
-/// The names and the formulas.
+/// The names and the formulas that are decided where none is asked for.
 pub fn problems() -> [(&'static str, Shape); 13] {
     let finds = |others, filters, loosened| {
         Shape::Finds(Finds {
@@ -48,6 +48,11 @@ pub fn problems() -> [(&'static str, Shape); 13] {
         ("ranks", Shape::Ranks(256, true)),
         ("ranks-open", Shape::Ranks(64, false)),
     ]
+}
+
+/// Those that are decided only where they are asked for, since they take long.
+pub fn long_problems() -> [(&'static str, Shape); 1] {
+    [("ranks-open-256", Shape::Ranks(256, false))]
 }
 
 /// The formula of a shape.
