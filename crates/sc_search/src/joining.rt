@@ -74,8 +74,11 @@ fn is_congruent(
         texts: _,
     } = reader;
     let found = found_by(alloc, terms, pairs, columns)?;
-    let broken = broken_congruences(alloc, arena, signature, terms, words, &found)?;
-    Ok(broken.is_none())
+    // Columns that are not congruent and break no clause are none to go on with either.
+    match broken_congruences(alloc, arena, signature, terms, words, &found) {
+        Ok(broken) => Ok(broken.is_none()),
+        Err(_) => Ok(false),
+    }
 }
 
 /// Whether the facts are by these classes as the solver found them, and no clause of congruence is
