@@ -113,7 +113,7 @@ module _ (s : Schema) (proper : IsProper s) (told : IsTold s) (room : HasRoom s)
   named-fields =
       all-both (AreProperFields s.next_field) (λ (a : ModelInfo). length a.fields ≤ most_fields) (HasFieldNames s) (λ a are few. (are.names, few)) s.models proper.fields room.fields
 
-  -- ---- a name over models with the names of s
+  -- a name over models with the names of s
   right-names : (t : Schema) (names : List ModelInfo) → t.models ≡ names → AreDefsNamed 0 s.models names → (m : ℕ) → HasModel s m → model_named t ((names_in s).model m) ≡ Some (new_model s.models m)
   unfolding model_named
   right-names t names are made m has = out (model_of s m) refl has

@@ -1,4 +1,4 @@
--- Schemas within the limits of specifications. Typing gives no others, also by commands.
+-- Schemas within the limits of specifications. Typing gives no others, also after commands.
 use Rattle.std.specs.Prelude.{◌≤◌, length}
 use Rattle.std.specs.List.{AllByRecursion}
 use Rattle.sc_ast.specs.Limits.{most_statics, most_models, most_fields}
@@ -14,9 +14,10 @@ pub record HasRoom (s : Schema) : Type 0 where
   pub models : length s.models ≤ most_models
   pub fields : AllByRecursion (λ (m : ModelInfo). length m.fields ≤ most_fields) s.models
 
--- ---- sizes, where added fields count as fields like others
+-- ---- sizes
 
 module _ (s : Schema) where
+  -- Added fields count as fields like others. Typing counts the larger one of this size and that with added fields written out.
   abbrev pub PolicyIsSmall : Policy → Type 0
   PolicyIsSmall p = policy_size_over s nothing_written p ≤ most_size
 
