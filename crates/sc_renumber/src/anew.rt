@@ -10,7 +10,7 @@ ghost use Rattle.sc_records.specs.Renumbered.{HasNewNumbers};
 ghost use Rattle.sc_renumbered.specs.Anew.{IsAnew};
 ghost use Rattle.sc_retyped.specs.Anew.{HasPoliciesAnew, KeepsRights};
 ghost use Rattle.sc_retyped.specs.Told.{IsTold};
-ghost use Rattle.sc_retyping.specs.Room.{HasRoom, IsSmall};
+ghost use Rattle.sc_retyping.specs.Room.{IsWithinNumbers, IsWithinSizes};
 ghost use Rattle.sc_scripts.specs.Counted.{counted};
 ghost use Rattle.sc_written.specs.Specs.{written_spec};
 
@@ -70,7 +70,7 @@ pub fn renumber(alloc: Global, s: &Schema) -> Result<Schema, TypeErr>
     ensures refused { IfErr result (λ e. e ≢ OutOfMemory
         → typed_spec counted (written_spec (schema_of s.now)) ≡ Err e) }
     ensures memory_alone { IfErr result (λ e. IsProper (schema_of s.now)
-        → IsTold (schema_of s.now) → HasRoom (schema_of s.now) → IsSmall (schema_of s.now)
+        → IsTold (schema_of s.now) → IsWithinNumbers (schema_of s.now) → IsWithinSizes (schema_of s.now)
         → e ≡ OutOfMemory) }
 {
     trees_are_typed();

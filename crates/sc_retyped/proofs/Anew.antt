@@ -97,15 +97,15 @@ staged sizes s anew e =
     let S = statics-made s.statics empty_schema start goes in
     let N = names-made s s.models start names n1 in
     let K = models-made Types names start (defs s s.models) known k1 in
-    let F = models-made Policies known start (defs s s.models) found e5 in
+    let Found = models-made Policies known start (defs s s.models) found e5 in
     let alone : (is : List ModelInfo) → start.models ++ is ≡ is = λ is. ap (λ (ms : List ModelInfo). ms ++ is) S.1.models in
-    let models : found.models ≡ F.0 = F.1.models ∙ alone F.0 in
+    let models : found.models ≡ Found.0 = Found.1.models ∙ alone Found.0 in
     let first : start.next_model ≡ 0 = S.1.next_model in
     let from : start.next_field ≡ 0 = S.1.next_field in
-    let made : AllMade Policies known 0 0 (defs s s.models) F.0 =
-    subst (λ n. AllMade Policies known n 0 (defs s s.models) F.0) first (subst (λ k. AllMade Policies known start.next_model k (defs s s.models) F.0) from F.2) in
-    let many = made-many s Policies known 0 0 s.models F.0 made in
-    let statics : found.statics ≡ S.0 = F.1.statics ∙ S.1.statics in
+    let made : AllMade Policies known 0 0 (defs s s.models) Found.0 =
+    subst (λ n. AllMade Policies known n 0 (defs s s.models) Found.0) first (subst (λ k. AllMade Policies known start.next_model k (defs s s.models) Found.0) from Found.2) in
+    let many = made-many s Policies known 0 0 s.models Found.0 made in
+    let statics : found.statics ≡ S.0 = Found.1.statics ∙ S.1.statics in
     let there : IsStaged s found = record {
       named = names;
       known = known;
@@ -114,14 +114,14 @@ staged sizes s anew e =
       statics = subst (AreStaticsAnew 0 s.statics) (sym statics) S.1.anew;
       names_are = N.1 ∙ alone N.0;
       types_are = K.1.models ∙ alone K.0;
-      statics_are = K.1.statics ∙ sym F.1.statics;
+      statics_are = K.1.statics ∙ sym Found.1.statics;
       named_made = subst (λ n. AreDefsNamed n s.models N.0) first N.2;
       types_made = subst (λ n. AllMade Types names n 0 (defs s s.models) K.0) first (subst (λ k. AllMade Types names start.next_model k (defs s s.models) K.0) from K.2);
       models_made = subst (AllMade Policies known 0 0 (defs s s.models)) (sym models) made;
-      next_static = omega (arith, F.1.next_static, S.1.next_static);
-      next_model = omega (arith, F.1.next_model, first, many.0);
-      next_field = omega (arith, F.1.next_field, from, many.1);
-      added = F.1.added ∙ S.1.added;
+      next_static = omega (arith, Found.1.next_static, S.1.next_static);
+      next_model = omega (arith, Found.1.next_model, first, many.0);
+      next_field = omega (arith, Found.1.next_field, from, many.1);
+      added = Found.1.added ∙ S.1.added;
     } in
     subst (IsStaged s) (ok-same found anew e2) there
 

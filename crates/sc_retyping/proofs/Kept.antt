@@ -27,7 +27,7 @@ use Rattle.sc_proper.proofs.Scripted.{steps_are_steady}
 use Rattle.sc_written.proofs.Specs.{AllMade}
 use Rattle.sc_retyped.proofs.Made.{models-made}
 use Rattle.sc_retyping.specs.Kept.{CommandsKeepRoom, ScriptsKeepRoom, SpecsHaveRoom}
-use Rattle.sc_retyping.specs.Room.{HasRoom, IsSmall}
+use Rattle.sc_retyping.specs.Room.{IsWithinNumbers, IsWithinSizes}
 use Rattle.sc_retyping.proofs.Room.{made-long, spec-room, statics-room}
 use Rattle.sc_retyping.proofs.RoomAfter.{command-room}
 use Rattle.sc_retyping.proofs.SmallAfter.{small-after}
@@ -50,9 +50,9 @@ spec-long spec s e =
     let (names, named, e2) = bound (in_turn with_names start spec.models) _ s e1 in
     let (known, typed, e3) = bound (in_turn (with_typed Types names) start spec.models) _ s e2 in
     let none = (statics-room spec.statics empty_schema start (omega arith) begun).1 in
-    let F = models-made Policies known start spec.models s e3 in
-    let models : s.models ≡ F.0 = F.1.models ∙ ap (λ (ms : List ModelInfo). ms ++ F.0) none in
-    subst (λ (ms : List ModelInfo). AreAsLong ms spec.models) (sym models) (as-long Policies known start.next_model start.next_field spec.models F.0 F.2)
+    let Found = models-made Policies known start spec.models s e3 in
+    let models : s.models ≡ Found.0 = Found.1.models ∙ ap (λ (ms : List ModelInfo). ms ++ Found.0) none in
+    subst (λ (ms : List ModelInfo). AreAsLong ms spec.models) (sym models) (as-long Policies known start.next_model start.next_field spec.models Found.0 Found.2)
 
 pub specs_have_room : SpecsHaveRoom
 unfolding typed_spec models_are_small
@@ -60,7 +60,7 @@ specs_have_room spec s e =
     let (found, is, e1) = bound (resolved_spec spec) _ s e in
     let (u, small, e2) = bound (models_are_small counted found found.models spec.models) _ s e1 in
     let within = small-back (flat_map (model_sizes counted found) found.models) (flat_map model_places spec.models) u (models-placed found found.models spec.models (spec-long spec found is)) small in
-    subst (λ (t : Schema). HasRoom t × IsSmall t) (ok-same found s e2) (spec-room spec found is, models-back found found.models within)
+    subst (λ (t : Schema). IsWithinNumbers t × IsWithinSizes t) (ok-same found s e2) (spec-room spec found is, models-back found found.models within)
 
 pair-same : (a b : Schema × Command) → ◌≡◌ {A = Checked (Schema × Command)} (Ok a) (Ok b) → a ≡ b
 pair-same a b e = cc
@@ -72,13 +72,13 @@ commands_keep_room s after c command proper later room small e =
     let (u, fits, e2) = bound (command_is_small counted (schema_after s found) found c) _ (after, command) e1 in
     let same : (schema_after s found, found) ≡ (after, command) = pair-same (schema_after s found, found) (after, command) e2 in
     let there : schema_after s found ≡ after = ap (λ (p : Schema × Command). p.0) same in
-    subst (λ (t : Schema). HasRoom t × IsSmall t) there
+    subst (λ (t : Schema). IsWithinNumbers t × IsWithinSizes t) there
     (command-room s proper room c found is, small-after s c found u proper (subst IsProper (sym there) later) small is fits)
 
 -- ---- scripts
 
 abbrev IsWithinLimits : Schema → Type 0
-IsWithinLimits s = HasRoom s × IsSmall s
+IsWithinLimits s = IsWithinNumbers s × IsWithinSizes s
 
 -- what holds of these steps, where their literals are values
 abbrev AreWithinLimits : Steps → Type 0

@@ -40,7 +40,7 @@ use Rattle.sc_retyped.proofs.Beside.{AreModelsBeside, model_by_name}
 use Rattle.sc_retyped.proofs.Found.{found-anew, models-differ, number-found}
 use Rattle.sc_retyped.proofs.Made.{AreDefsNamed, defs, IsFieldGood, IsModelGood, models-beside, models-made, names-made, statics-made}
 use Rattle.sc_retyped.proofs.Whole.{IsFound, set-comes}
-use Rattle.sc_retyping.specs.Room.{HasRoom}
+use Rattle.sc_retyping.specs.Room.{IsWithinNumbers}
 use Rattle.sc_retyping.proofs.Goes.{Goes, HasFieldNames, IsUnused, model_names, models-go, names-go, statics-go}
 
 -- ---- policies
@@ -83,7 +83,7 @@ Any p q = Unit {0}
 abbrev pub IsResolved : (s anew : Schema) → Type 0
 IsResolved s anew = (resolved_spec (written_spec s) ≡ Ok anew) × AreModelsBeside s.models (Moved s) 0 0 s.models anew.models × (anew.added ≡ [])
 
-module _ (s : Schema) (proper : IsProper s) (told : IsTold s) (room : HasRoom s) where
+module _ (s : Schema) (proper : IsProper s) (told : IsTold s) (room : IsWithinNumbers s) where
   get : ModelsGet s.models 0 0 s.models
   get =
       models-get s.models 0 0 s.models proper.models.distinct

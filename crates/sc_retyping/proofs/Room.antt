@@ -23,7 +23,7 @@ use Rattle.sc_proper.proofs.NewModel.{FieldsMade}
 use Rattle.sc_proper.proofs.Resolves.{bound, ok-same}
 use Rattle.sc_written.proofs.Specs.{AllMade}
 use Rattle.sc_retyped.proofs.Made.{models-made}
-use Rattle.sc_retyping.specs.Room.{HasRoom}
+use Rattle.sc_retyping.specs.Room.{IsWithinNumbers}
 
 pub room-left : (taken : Bool) (there most : ℕ) (x : Named) (u : Unit {0}) → one_more taken there most x ≡ Ok u → there < most
 unfolding one_more
@@ -105,7 +105,7 @@ statics-room (x ∷ xs) u out le e =
     let later = statics-room xs more out (omega (arith, left, count)) rest in
     (later.0, later.1 ∙ sym (ap (λ (s : Schema). s.models) made))
 
-pub spec-room : (spec : Spec) (s : Schema) → resolved_spec spec ≡ Ok s → HasRoom s
+pub spec-room : (spec : Spec) (s : Schema) → resolved_spec spec ≡ Ok s → IsWithinNumbers s
 unfolding resolved_spec with_models
 spec-room spec s e =
     let (start, begun, e1) = bound (in_turn with_static empty_schema spec.statics) (λ (t : Schema). with_models t spec.models) s e in
@@ -114,12 +114,12 @@ spec-room spec s e =
     let S = statics-room spec.statics empty_schema start (omega arith) begun in
     let none : length start.models ≡ 0 = ap length S.1 in
     let N = names-room spec.models start names (omega (arith, none)) named in
-    let F = models-made Policies known start spec.models s e3 in
-    let M = made-room Policies known start.next_model start.next_field spec.models F.0 F.2 N.1 in
-    let models : s.models ≡ F.0 = F.1.models ∙ ap (λ (ms : List ModelInfo). ms ++ F.0) S.1 in
-    let many : length s.models ≡ length F.0 = ap length models in
+    let Found = models-made Policies known start spec.models s e3 in
+    let M = made-room Policies known start.next_model start.next_field spec.models Found.0 Found.2 N.1 in
+    let models : s.models ≡ Found.0 = Found.1.models ∙ ap (λ (ms : List ModelInfo). ms ++ Found.0) S.1 in
+    let many : length s.models ≡ length Found.0 = ap length models in
     record {
-      statics = subst (λ xs. length xs ≤ most_statics) (sym F.1.statics) S.0;
+      statics = subst (λ xs. length xs ≤ most_statics) (sym Found.1.statics) S.0;
       models = omega (arith, many, none, M.0, N.0);
       fields = subst HaveFewFields (sym models) M.1;
     }

@@ -20,7 +20,7 @@ use Rattle.sc_proper.proofs.Grown.{all-changed, with_policies}
 use Rattle.sc_proper.proofs.Lists.{all-append, all-both, all-filter, all-unmap, all-weaken}
 use Rattle.sc_proper.proofs.NewModel.{model-parts}
 use Rattle.sc_proper.proofs.Resolves.{bound}
-use Rattle.sc_retyping.specs.Room.{HasRoom}
+use Rattle.sc_retyping.specs.Room.{IsWithinNumbers}
 use Rattle.sc_retyping.proofs.Commands.{IsMade, is-made}
 use Rattle.sc_retyping.proofs.Room.{HaveFewFields, few-fields, made-long, room-left}
 
@@ -100,8 +100,8 @@ short-filter {A} p (x ∷ xs) = at (p x) (short-filter p xs)
     at false rest = omega (arith, rest)
 
 -- one model changed
-room-changed : (s after : Schema) (m : ℕ) (change : ModelInfo → ModelInfo) → HasRoom s → after.statics ≡ s.statics → after.models ≡ change_model m change s.models
-    → ((info : ModelInfo) → (change info).number ≡ info.number) → HaveFewFields (change_model m change s.models) → HasRoom after
+room-changed : (s after : Schema) (m : ℕ) (change : ModelInfo → ModelInfo) → IsWithinNumbers s → after.statics ≡ s.statics → after.models ≡ change_model m change s.models
+    → ((info : ModelInfo) → (change info).number ≡ info.number) → HaveFewFields (change_model m change s.models) → IsWithinNumbers after
 room-changed s after m change room statics models number few =
     let many : length after.models ≡ length s.models = ap length models ∙ long-map (λ (info : ModelInfo). if info.number == m then change info else info) s.models in
     let room_before = room.models in
@@ -118,14 +118,14 @@ no-more m change number short ms few =
     all-changed m change number (λ (i : ModelInfo). length i.fields ≤ most_fields) (λ (i : ModelInfo). length i.fields ≤ most_fields)
     (λ info is le. let less = short info in omega (arith, le, less)) (λ info is le. le) ms few
 
-changed-room : (s after : Schema) (m : ℕ) (change : ModelInfo → ModelInfo) → HasRoom s → after.statics ≡ s.statics → after.models ≡ change_model m change s.models
-    → ((info : ModelInfo) → (change info).number ≡ info.number) → ((info : ModelInfo) → length (change info).fields ≤ length info.fields) → HasRoom after
+changed-room : (s after : Schema) (m : ℕ) (change : ModelInfo → ModelInfo) → IsWithinNumbers s → after.statics ≡ s.statics → after.models ≡ change_model m change s.models
+    → ((info : ModelInfo) → (change info).number ≡ info.number) → ((info : ModelInfo) → length (change info).fields ≤ length info.fields) → IsWithinNumbers after
 changed-room s after m change room statics models number short = room-changed s after m change room statics models number (no-more m change number short s.models room.fields)
 
 same-many : (fields : List FieldInfo) (f : ℕ) (change : FieldInfo → FieldInfo) → length (change_field f change fields) ≤ length fields
 same-many fields f change = let e = long-map (λ (g : FieldInfo). if g.number == f then change g else g) fields in omega (arith, e)
 
-pub after-room : (s : Schema) (c : Command) → HasRoom s → FitsRoom s c → HasRoom (schema_after s c)
+pub after-room : (s : Schema) (c : Command) → IsWithinNumbers s → FitsRoom s c → IsWithinNumbers (schema_after s c)
 after-room s (create_model info) room fits =
     let count = length-append s.models (info ∷ []) in
     let left = fits.0 in
@@ -168,5 +168,5 @@ after-room s (update_model m create delete) room fits =
 after-room s (weaken_model m create delete reason) room fits =
     changed-room s (schema_after s (weaken_model m create delete reason)) m (with_model_policies create delete) room refl refl (λ info. refl) (λ info. omega arith)
 
-pub command-room : (s : Schema) → IsProper s → HasRoom s → (c : written.Command) (command : Command) → resolved s c ≡ Ok command → HasRoom (schema_after s command)
+pub command-room : (s : Schema) → IsProper s → IsWithinNumbers s → (c : written.Command) (command : Command) → resolved s c ≡ Ok command → IsWithinNumbers (schema_after s command)
 command-room s proper room c command is = after-room s command room (made-fits s proper c command (is-made s c command is))

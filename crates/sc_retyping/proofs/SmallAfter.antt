@@ -27,7 +27,7 @@ use Rattle.sc_proper.proofs.Lists.{all-append, all-filter}
 use Rattle.sc_proper.proofs.Lookups.{find-changed, find-more, type_in}
 use Rattle.sc_proper.proofs.NewModel.{model-parts}
 use Rattle.sc_proper.proofs.Resolves.{bound, ok-same}
-use Rattle.sc_retyping.specs.Room.{FieldIsSmall, IsSmall, ModelIsSmall, PolicyIsSmall}
+use Rattle.sc_retyping.specs.Room.{FieldIsWithin, IsWithinSizes, ModelIsWithin, PolicyIsWithin}
 use Rattle.sc_retyping.proofs.Commands.{IsMade, is-made}
 use Rattle.sc_retyping.proofs.Numbers.{field_itself, itself, policy-itself}
 use Rattle.sc_retyping.proofs.Room.{made-long}
@@ -37,16 +37,16 @@ use Rattle.sc_retyping.proofs.Within.{field-back, model-back, model-placed, poli
 -- ---- what a command gives is small
 
 abbrev GivenIsSmall : Schema → Option Policy → Type 0
-GivenIsSmall t given = IfSome given (PolicyIsSmall t)
+GivenIsSmall t given = IfSome given (PolicyIsWithin t)
 
 -- over this schema
 abbrev CommandIsSmall : Schema → Command → Type 0
-CommandIsSmall t (create_model info) = ModelIsSmall t info
+CommandIsSmall t (create_model info) = ModelIsWithin t info
 CommandIsSmall t (delete_model m) = Unit {0}
 CommandIsSmall t (add_static info) = Unit {0}
 CommandIsSmall t (remove_static n) = Unit {0}
 CommandIsSmall t (add_principal m) = Unit {0}
-CommandIsSmall t (add_field m f init) = FieldIsSmall t f
+CommandIsSmall t (add_field m f init) = FieldIsWithin t f
 CommandIsSmall t (remove_field m f) = Unit {0}
 CommandIsSmall t (update_field m f read write) = GivenIsSmall t read × GivenIsSmall t write
 CommandIsSmall t (weaken_field m f read write reason) = GivenIsSmall t read × GivenIsSmall t write
@@ -140,22 +140,22 @@ abbrev SameSize : (s t : Schema) → ℕ → Policy → Type 0
 SameSize s t m p = policy_size_over t nothing_written p ≡ policy_size_over s nothing_written p
 
 module _ (s t over : Schema) (same : (m : ℕ) (p : Policy) → IsPolicy over m p → SameSize s t m p) where
-  still : (m : ℕ) (p : Policy) → IsPolicy over m p → PolicyIsSmall s p → PolicyIsSmall t p
+  still : (m : ℕ) (p : Policy) → IsPolicy over m p → PolicyIsWithin s p → PolicyIsWithin t p
   still m p is small = let e = same m p is in omega (arith, e, small)
 
-  fields-still : (m : ℕ) (fs : List FieldInfo) → AllByRecursion (IsField over m) fs → AllByRecursion (FieldIsSmall s) fs → AllByRecursion (FieldIsSmall t) fs
+  fields-still : (m : ℕ) (fs : List FieldInfo) → AllByRecursion (IsField over m) fs → AllByRecursion (FieldIsWithin s) fs → AllByRecursion (FieldIsWithin t) fs
   fields-still m [] typed small = tt
   fields-still m (f ∷ fs) typed small = ((still m f.read typed.0.read small.0.0, still m f.write typed.0.write small.0.1), fields-still m fs typed.1 small.1)
 
-  models-still : (ms : List ModelInfo) → AllByRecursion (IsModel over) ms → AllByRecursion (ModelIsSmall s) ms → AllByRecursion (ModelIsSmall t) ms
+  models-still : (ms : List ModelInfo) → AllByRecursion (IsModel over) ms → AllByRecursion (ModelIsWithin s) ms → AllByRecursion (ModelIsWithin t) ms
   models-still [] typed small = tt
   models-still (a ∷ ms) typed small =
       ((still a.number a.create typed.0.create small.0.0, still a.number a.delete typed.0.delete small.0.1, fields-still a.number a.fields typed.0.fields small.0.2), models-still ms typed.1 small.1)
 
-grown-small : (s t : Schema) → IsProper s → KeepsTypes s t → IsSmall s → AllByRecursion (ModelIsSmall t) s.models
+grown-small : (s t : Schema) → IsProper s → KeepsTypes s t → IsWithinSizes s → AllByRecursion (ModelIsWithin t) s.models
 grown-small s t proper keeps small = models-still s t s (λ m p is. policy-kept s t keeps m p is) s.models proper.typed small
 
-gone-small : (s t : Schema) → IsProper t → KeepsTypes t s → AllByRecursion (ModelIsSmall s) t.models → IsSmall t
+gone-small : (s t : Schema) → IsProper t → KeepsTypes t s → AllByRecursion (ModelIsWithin s) t.models → IsWithinSizes t
 gone-small s t proper keeps small = models-still s t t (λ m p is. sym (policy-kept t s keeps m p is)) t.models proper.typed small
 
 -- ---- types of fields after a command
@@ -245,29 +245,29 @@ keeps-without s m f =
 
 -- ---- the schema after a command
 
-rights-small : (t : Schema) (f : ℕ) (read write : Option Policy) (info : ModelInfo) → GivenIsSmall t read → GivenIsSmall t write → ModelIsSmall t info → ModelIsSmall t (with_field_policies f read write info)
+rights-small : (t : Schema) (f : ℕ) (read write : Option Policy) (info : ModelInfo) → GivenIsSmall t read → GivenIsSmall t write → ModelIsWithin t info → ModelIsWithin t (with_field_policies f read write info)
 rights-small t f read write info one other small = (
   small.0,
   small.1,
-  all-fields-changed f read write (FieldIsSmall t) (λ g is k. (given-is (PolicyIsSmall t) read g.read one k.0, given-is (PolicyIsSmall t) write g.write other k.1)) info.fields small.2,
+  all-fields-changed f read write (FieldIsWithin t) (λ g is k. (given-is (PolicyIsWithin t) read g.read one k.0, given-is (PolicyIsWithin t) write g.write other k.1)) info.fields small.2,
 )
 
 -- one model changed, whose fields keep their types
 changed-small : (s t : Schema) (m : ℕ) (change : ModelInfo → ModelInfo) → t.models ≡ change_model m change s.models → ((info : ModelInfo) → (change info).number ≡ info.number)
-    → ((info : ModelInfo) (f : ℕ) (ty : TTy) → type_in info f ≡ Some ty → type_in (change info) f ≡ Some ty) → ((info : ModelInfo) → ModelIsSmall t info → ModelIsSmall t (change info))
-    → IsProper s → IsSmall s → IsSmall t
+    → ((info : ModelInfo) (f : ℕ) (ty : TTy) → type_in info f ≡ Some ty → type_in (change info) f ≡ Some ty) → ((info : ModelInfo) → ModelIsWithin t info → ModelIsWithin t (change info))
+    → IsProper s → IsWithinSizes s → IsWithinSizes t
 changed-small s t m change same number types here proper small =
-    subst (AllByRecursion (ModelIsSmall t)) (sym same)
-    (all-changed m change number (ModelIsSmall t) (ModelIsSmall t) (λ info is k. here info k) (λ info is k. k) s.models (grown-small s t proper (keeps-changed s t m change same number types) small))
+    subst (AllByRecursion (ModelIsWithin t)) (sym same)
+    (all-changed m change number (ModelIsWithin t) (ModelIsWithin t) (λ info is k. here info k) (λ info is k. k) s.models (grown-small s t proper (keeps-changed s t m change same number types) small))
 
-after-small : (s : Schema) (c : Command) → IsProper s → IsProper (schema_after s c) → IsSmall s → CommandIsSmall (schema_after s c) c → IsSmall (schema_after s c)
+after-small : (s : Schema) (c : Command) → IsProper s → IsProper (schema_after s c) → IsWithinSizes s → CommandIsSmall (schema_after s c) c → IsWithinSizes (schema_after s c)
 after-small s (create_model info) proper later small new =
     let t : Schema = schema_after s (create_model info) in
     let keeps = keeps-by s t (λ n i is. (i, find-more (λ (j : ModelInfo). j.number == n) s.models (info ∷ []) i is, λ f ty has. has)) in
-    all-append (ModelIsSmall t) s.models (info ∷ []) (grown-small s t proper keeps small) (new, tt)
+    all-append (ModelIsWithin t) s.models (info ∷ []) (grown-small s t proper keeps small) (new, tt)
 after-small s (delete_model m) proper later small new =
     gone-small s (schema_after s (delete_model m)) later (keeps-deleted s m)
-    (all-filter (ModelIsSmall s) (ModelIsSmall s) (λ (info : ModelInfo). not (info.number == m)) (λ info is k. k) s.models small)
+    (all-filter (ModelIsWithin s) (ModelIsWithin s) (λ (info : ModelInfo). not (info.number == m)) (λ info is k. k) s.models small)
 after-small s (add_static info) proper later small new =
     let t : Schema = schema_after s (add_static info) in grown-small s t proper (keeps-same s t refl) small
 after-small s (remove_static n) proper later small new =
@@ -277,11 +277,11 @@ after-small s (add_principal m) proper later small new =
 after-small s (add_field m f init) proper later small new =
     let t : Schema = schema_after s (add_field m f init) in
     changed-small s t m (with_field f) refl (λ info. refl) (λ info g ty has. fields-more info.fields f g ty has)
-    (λ info k. (k.0, k.1, all-append (FieldIsSmall t) info.fields (f ∷ []) k.2 (new, tt))) proper small
+    (λ info k. (k.0, k.1, all-append (FieldIsWithin t) info.fields (f ∷ []) k.2 (new, tt))) proper small
 after-small s (remove_field m f) proper later small new =
     gone-small s (schema_after s (remove_field m f)) later (keeps-without s m f)
-    (all-changed m (without_field f) (λ info. refl) (ModelIsSmall s) (ModelIsSmall s)
-    (λ info is k. (k.0, k.1, all-filter (FieldIsSmall s) (FieldIsSmall s) (λ (g : FieldInfo). not (g.number == f)) (λ g is h. h) info.fields k.2)) (λ info is k. k) s.models small)
+    (all-changed m (without_field f) (λ info. refl) (ModelIsWithin s) (ModelIsWithin s)
+    (λ info is k. (k.0, k.1, all-filter (FieldIsWithin s) (FieldIsWithin s) (λ (g : FieldInfo). not (g.number == f)) (λ g is h. h) info.fields k.2)) (λ info is k. k) s.models small)
 after-small s (update_field m f read write) proper later small new =
     changed-small s (schema_after s (update_field m f read write)) m (with_field_policies f read write) refl (λ info. refl) (λ info g ty has. types-changed f read write info.fields g ∙ has)
     (λ info k. rights-small (schema_after s (update_field m f read write)) f read write info new.0 new.1 k) proper small
@@ -291,12 +291,12 @@ after-small s (weaken_field m f read write reason) proper later small new =
 after-small s (update_model m create delete) proper later small new =
     let t : Schema = schema_after s (update_model m create delete) in
     changed-small s t m (with_model_policies create delete) refl (λ info. refl) (λ info g ty has. has)
-    (λ info k. (given-is (PolicyIsSmall t) create info.create new.0 k.0, given-is (PolicyIsSmall t) delete info.delete new.1 k.1, k.2)) proper small
+    (λ info k. (given-is (PolicyIsWithin t) create info.create new.0 k.0, given-is (PolicyIsWithin t) delete info.delete new.1 k.1, k.2)) proper small
 after-small s (weaken_model m create delete reason) proper later small new =
     let t : Schema = schema_after s (weaken_model m create delete reason) in
     changed-small s t m (with_model_policies create delete) refl (λ info. refl) (λ info g ty has. has)
-    (λ info k. (given-is (PolicyIsSmall t) create info.create new.0 k.0, given-is (PolicyIsSmall t) delete info.delete new.1 k.1, k.2)) proper small
+    (λ info k. (given-is (PolicyIsWithin t) create info.create new.0 k.0, given-is (PolicyIsWithin t) delete info.delete new.1 k.1, k.2)) proper small
 
-pub small-after : (s : Schema) (c : written.Command) (command : Command) (u : Unit {0}) → IsProper s → IsProper (schema_after s command) → IsSmall s → resolved s c ≡ Ok command
-    → command_is_small counted (schema_after s command) command c ≡ Ok u → IsSmall (schema_after s command)
+pub small-after : (s : Schema) (c : written.Command) (command : Command) (u : Unit {0}) → IsProper s → IsProper (schema_after s command) → IsWithinSizes s → resolved s c ≡ Ok command
+    → command_is_small counted (schema_after s command) command c ≡ Ok u → IsWithinSizes (schema_after s command)
 small-after s c command u proper later small is e = after-small s command proper later small (command-small s (schema_after s command) c command u is e)

@@ -25,7 +25,7 @@ use Rattle.sc_retyped.proofs.Exprs.{then-ok}
 use Rattle.sc_retyped.proofs.Beside.{AreFieldsBeside, AreModelsBeside}
 use Rattle.sc_retyped.proofs.Found.{field-beside}
 use Rattle.sc_retyping.specs.Laws.{TreesAreResolved, TreesAreTyped}
-use Rattle.sc_retyping.specs.Room.{FieldIsSmall, ModelIsSmall, PolicyIsSmall}
+use Rattle.sc_retyping.specs.Room.{FieldIsWithin, ModelIsWithin, PolicyIsWithin}
 use Rattle.sc_retyping.proofs.Resolved.{Moved, resolves}
 use Rattle.sc_retyping.proofs.Sizes.{HasFieldsBy, policy-same}
 use Rattle.sc_retyping.proofs.Within.{IsWithin, small-all}
@@ -69,13 +69,13 @@ module _ (s t : Schema) (proper : IsProper s) (beside : AreModelsBeside s.models
   below : (a b n most : ℕ) → a ≡ b → b ≡ n → n ≤ most → min (max a b) 1000000 ≤ most
   below a b n most e f le = omega (arith, e, f, le)
 
-  policy-small : (m : ℕ) (p q : Policy) → IsPolicy s m p → PolicyIsSmall s p → Moved s p q → IsWithin (policy_size t q)
+  policy-small : (m : ℕ) (p q : Policy) → IsPolicy s m p → PolicyIsWithin s p → Moved s p q → IsWithin (policy_size t q)
   policy-small m p q is small moved =
       below (policy_size_over t (written_out t t.added) q) (policy_size_over t nothing_written q) (policy_size_over s nothing_written p) most_size
       (ap (λ (added : List Added). policy_size_over t (written_out t added) q) nothing)
       (ap (policy_size_over t nothing_written) moved ∙ policy-same s t (new_model s.models) (new_field s.models) (new_static s) has-fields m p is) small
 
-  fields-small : (m k : ℕ) (fs gs : List FieldInfo) → AreFieldsBeside s.models (Moved s) k fs gs → AllByRecursion (IsField s m) fs → AllByRecursion (FieldIsSmall s) fs
+  fields-small : (m k : ℕ) (fs gs : List FieldInfo) → AreFieldsBeside s.models (Moved s) k fs gs → AllByRecursion (IsField s m) fs → AllByRecursion (FieldIsWithin s) fs
       → AllByRecursion IsWithin (flat_map (field_sizes counted t) gs)
   fields-small m k [] [] are typed small = tt
   fields-small m k [] (g ∷ gs) are typed small = absurd are
@@ -85,7 +85,7 @@ module _ (s t : Schema) (proper : IsProper s) (beside : AreModelsBeside s.models
     (policy-small m f.write g.write typed.0.write small.0.1 are.0.write, fields-small m (k + 1) fs gs are.1 typed.1 small.1),
   )
 
-  models-small : (n k : ℕ) (ms is : List ModelInfo) → AreModelsBeside s.models (Moved s) n k ms is → AllByRecursion (IsModel s) ms → AllByRecursion (ModelIsSmall s) ms
+  models-small : (n k : ℕ) (ms is : List ModelInfo) → AreModelsBeside s.models (Moved s) n k ms is → AllByRecursion (IsModel s) ms → AllByRecursion (ModelIsWithin s) ms
       → AllByRecursion IsWithin (flat_map (model_sizes counted t) is)
   models-small n k [] [] are typed small = tt
   models-small n k [] (i ∷ is) are typed small = absurd are

@@ -15,7 +15,7 @@ use Rattle.sc_duty.specs.Sizes.{policy_size, policy_size_over}
 use Rattle.sc_scripts.specs.Counted.{counted}
 use Rattle.sc_proper.proofs.Lists.{all-back, all-front}
 use Rattle.sc_proper.proofs.Resolves.{bound}
-use Rattle.sc_retyping.specs.Room.{FieldIsSmall, ModelIsSmall, PolicyIsSmall}
+use Rattle.sc_retyping.specs.Room.{FieldIsWithin, ModelIsWithin, PolicyIsWithin}
 
 abbrev pub IsWithin : ℕ → Type 0
 IsWithin n = n ≤ most_size
@@ -48,20 +48,20 @@ small-back (n ∷ sizes) (at ∷ places) u long e =
 larger-within : (a b : ℕ) → min (max a b) 1000000 ≤ 20000 → b ≤ 20000
 larger-within a b le = omega (arith, le)
 
-pub policy-back : (s : Schema) (p : Policy) → IsWithin (policy_size s p) → PolicyIsSmall s p
+pub policy-back : (s : Schema) (p : Policy) → IsWithin (policy_size s p) → PolicyIsWithin s p
 policy-back s p le = larger-within (policy_size_over s (written_out s s.added) p) (policy_size_over s nothing_written p) le
 
-pub field-back : (s : Schema) (f : FieldInfo) (rest : List ℕ) → AllByRecursion IsWithin (field_sizes counted s f ++ rest) → FieldIsSmall s f
+pub field-back : (s : Schema) (f : FieldInfo) (rest : List ℕ) → AllByRecursion IsWithin (field_sizes counted s f ++ rest) → FieldIsWithin s f
 field-back s f rest all = (policy-back s f.read all.0, policy-back s f.write all.1.0)
 
-fields-back : (s : Schema) (fs : List FieldInfo) → AllByRecursion IsWithin (flat_map (field_sizes counted s) fs) → AllByRecursion (FieldIsSmall s) fs
+fields-back : (s : Schema) (fs : List FieldInfo) → AllByRecursion IsWithin (flat_map (field_sizes counted s) fs) → AllByRecursion (FieldIsWithin s) fs
 fields-back s [] all = tt
 fields-back s (f ∷ fs) all = (field-back s f (flat_map (field_sizes counted s) fs) all, fields-back s fs all.1.1)
 
-pub model-back : (s : Schema) (m : ModelInfo) → AllByRecursion IsWithin (model_sizes counted s m) → ModelIsSmall s m
+pub model-back : (s : Schema) (m : ModelInfo) → AllByRecursion IsWithin (model_sizes counted s m) → ModelIsWithin s m
 model-back s m all = (policy-back s m.create all.0, policy-back s m.delete all.1.0, fields-back s m.fields all.1.1)
 
-pub models-back : (s : Schema) (ms : List ModelInfo) → AllByRecursion IsWithin (flat_map (model_sizes counted s) ms) → AllByRecursion (ModelIsSmall s) ms
+pub models-back : (s : Schema) (ms : List ModelInfo) → AllByRecursion IsWithin (flat_map (model_sizes counted s) ms) → AllByRecursion (ModelIsWithin s) ms
 models-back s [] all = tt
 models-back s (m ∷ ms) all = (
   model-back s m (all-front IsWithin (model_sizes counted s m) (flat_map (model_sizes counted s) ms) all),

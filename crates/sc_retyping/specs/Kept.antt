@@ -14,20 +14,20 @@ use Rattle.sc_commands.specs.Scripts.{typed_script}
 use Rattle.sc_proper.specs.Literals.{CommandHasLiterals}
 use Rattle.sc_proper.specs.Steady.{IsSteady}
 use Rattle.sc_scripts.specs.Counted.{counted}
-use Rattle.sc_retyping.specs.Room.{HasRoom, IsSmall}
+use Rattle.sc_retyping.specs.Room.{IsWithinNumbers, IsWithinSizes}
 
 -- the schema of a specification
 abbrev pub SpecsHaveRoom : Type 0
-SpecsHaveRoom = (spec : Spec) (s : Schema) → typed_spec counted spec ≡ Ok s → HasRoom s × IsSmall s
+SpecsHaveRoom = (spec : Spec) (s : Schema) → typed_spec counted spec ≡ Ok s → IsWithinNumbers s × IsWithinSizes s
 
 -- the schema after a command, where both are proper
 abbrev pub CommandsKeepRoom : Type 0
 CommandsKeepRoom =
-    (s after : Schema) (c : written.Command) (command : Command) → IsProper s → IsProper after → HasRoom s → IsSmall s → typed_command counted s c ≡ Ok (after, command)
-    → HasRoom after × IsSmall after
+    (s after : Schema) (c : written.Command) (command : Command) → IsProper s → IsProper after → IsWithinNumbers s → IsWithinSizes s → typed_command counted s c ≡ Ok (after, command)
+    → IsWithinNumbers after × IsWithinSizes after
 
 -- all on the way of a script over a steady schema, where its literals are values
 abbrev pub ScriptsKeepRoom : Type 0
 ScriptsKeepRoom =
-    (s : Schema) (script : written_script.Script) (t : Script) → IsSteady s → HasRoom s → IsSmall s → AllByRecursion CommandHasLiterals t.commands
-    → typed_script counted s script ≡ Ok t → AllByRecursion (λ (u : Schema). HasRoom u × IsSmall u) t.schemas
+    (s : Schema) (script : written_script.Script) (t : Script) → IsSteady s → IsWithinNumbers s → IsWithinSizes s → AllByRecursion CommandHasLiterals t.commands
+    → typed_script counted s script ≡ Ok t → AllByRecursion (λ (u : Schema). IsWithinNumbers u × IsWithinSizes u) t.schemas

@@ -6,12 +6,12 @@ use Rattle.sc_specs.specs.Specs.{resolved_spec, typed_spec}
 use Rattle.sc_scripts.specs.Counted.{counted}
 use Rattle.sc_written.specs.Specs.{written_spec}
 use Rattle.sc_retyped.specs.Told.{IsTold}
-use Rattle.sc_retyping.specs.Room.{HasRoom, IsSmall}
+use Rattle.sc_retyping.specs.Room.{IsWithinNumbers, IsWithinSizes}
 
 -- By every rule but those on sizes it is, where the schema is proper, told by its tree, and within the limits on numbers.
 abbrev pub TreesAreResolved : Type 0
-TreesAreResolved = (s : Schema) → IsProper s → IsTold s → HasRoom s → (anew : Schema) × (resolved_spec (written_spec s) ≡ Ok anew)
+TreesAreResolved = (s : Schema) → IsProper s → IsTold s → IsWithinNumbers s → (anew : Schema) × (resolved_spec (written_spec s) ≡ Ok anew)
 
 -- Where its policies are within the limit on sizes too, no rule refuses it.
 abbrev pub TreesAreTyped : Type 0
-TreesAreTyped = (s : Schema) → IsProper s → IsTold s → HasRoom s → IsSmall s → (anew : Schema) × (typed_spec counted (written_spec s) ≡ Ok anew)
+TreesAreTyped = (s : Schema) → IsProper s → IsTold s → IsWithinNumbers s → IsWithinSizes s → (anew : Schema) × (typed_spec counted (written_spec s) ≡ Ok anew)

@@ -9,7 +9,7 @@ use Rattle.sc_duty.specs.Sizes.{policy_size_over}
 use Rattle.sc_specs.specs.Sizes.{most_size}
 
 -- there are no more statics, models and fields of a model than a specification may have
-pub record HasRoom (s : Schema) : Type 0 where
+pub record IsWithinNumbers (s : Schema) : Type 0 where
   pub statics : length s.statics ≤ most_statics
   pub models : length s.models ≤ most_models
   pub fields : AllByRecursion (λ (m : ModelInfo). length m.fields ≤ most_fields) s.models
@@ -18,15 +18,15 @@ pub record HasRoom (s : Schema) : Type 0 where
 
 module _ (s : Schema) where
   -- Added fields count as fields like others. Typing counts the larger one of this size and that with added fields written out.
-  abbrev pub PolicyIsSmall : Policy → Type 0
-  PolicyIsSmall p = policy_size_over s nothing_written p ≤ most_size
+  abbrev pub PolicyIsWithin : Policy → Type 0
+  PolicyIsWithin p = policy_size_over s nothing_written p ≤ most_size
 
-  abbrev pub FieldIsSmall : FieldInfo → Type 0
-  FieldIsSmall f = PolicyIsSmall f.read × PolicyIsSmall f.write
+  abbrev pub FieldIsWithin : FieldInfo → Type 0
+  FieldIsWithin f = PolicyIsWithin f.read × PolicyIsWithin f.write
 
-  abbrev pub ModelIsSmall : ModelInfo → Type 0
-  ModelIsSmall m = PolicyIsSmall m.create × PolicyIsSmall m.delete × AllByRecursion FieldIsSmall m.fields
+  abbrev pub ModelIsWithin : ModelInfo → Type 0
+  ModelIsWithin m = PolicyIsWithin m.create × PolicyIsWithin m.delete × AllByRecursion FieldIsWithin m.fields
 
   -- so are all policies of the schema
-  abbrev pub IsSmall : Type 0
-  IsSmall = AllByRecursion ModelIsSmall s.models
+  abbrev pub IsWithinSizes : Type 0
+  IsWithinSizes = AllByRecursion ModelIsWithin s.models

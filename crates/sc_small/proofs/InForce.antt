@@ -17,7 +17,7 @@ use Rattle.sc_eval.proofs.Kept.{found-field}
 use Rattle.sc_duty.proofs.Created.{command-there}
 use Rattle.sc_proper.proofs.Lists.{all-append, all-filter, all-weaken}
 use Rattle.sc_small.specs.Asked.{policy_uses_of}
-use Rattle.sc_small.specs.Small.{PolicyIsSmall, CommandIsSmall, IsSmall}
+use Rattle.sc_small.specs.Small.{PolicyIsBounded, CommandIsBounded, IsBounded}
 use Rattle.sc_small.proofs.Typed.{IsThere, OfField, OfModel, models-weaken, models-together, all-there}
 
 -- ---- policies that a command keeps or gives
@@ -60,12 +60,12 @@ module _ (P S : Policy → Type 0) where
 
 module _ (most : ℕ) (s after : Schema) (P : Policy → Type 0) where
   abbrev Small : Policy → Type 0
-  Small p = PolicyIsSmall most after p
+  Small p = PolicyIsBounded most after p
 
   abbrev Now : Policy → Type 0
   Now p = P p ⊎ Small p
 
-  pub policies-after : (c : Command) → CommandIsSmall most after c → AllByRecursion (OfModel P) s.models → AllByRecursion (OfModel Now) (schema_after s c).models
+  pub policies-after : (c : Command) → CommandIsBounded most after c → AllByRecursion (OfModel P) s.models → AllByRecursion (OfModel Now) (schema_after s c).models
   policies-after c small before = by c small (models-weaken P Now (λ p own. inl own) s.models before)
     where
       policies : (m f : ℕ) (read write : Option Policy) → IfSome read Small → IfSome write Small → AllByRecursion (OfModel Now) s.models
@@ -79,7 +79,7 @@ module _ (most : ℕ) (s after : Schema) (P : Policy → Type 0) where
           models-changed P Small m (with_model_policies create delete)
           (λ i own. (given-is P Small create i.create one own.0, given-is P Small delete i.delete two own.1, own.2)) s.models old
 
-      by : (c : Command) → CommandIsSmall most after c → AllByRecursion (OfModel Now) s.models → AllByRecursion (OfModel Now) (schema_after s c).models
+      by : (c : Command) → CommandIsBounded most after c → AllByRecursion (OfModel Now) s.models → AllByRecursion (OfModel Now) (schema_after s c).models
       by (create_model info) small old = all-append (OfModel Now) s.models (info ∷ []) old ((inr small.0, inr small.1, new-fields P Small info.fields small.2), tt)
       by (delete_model m) small old = all-filter (OfModel Now) (OfModel Now) (λ (info : ModelInfo). not (info.number == m)) (λ i stays own. own) s.models old
       by (add_static info) small old = old
@@ -127,30 +127,30 @@ module _ (P : Policy → Type 0) (s : Schema) (all : AllByRecursion (OfModel P) 
 
 -- ---- along a script
 
-module _ (t : Script) (is : IsScript t) (most : ℕ) (small : IsSmall most t) where
+module _ (t : Script) (is : IsScript t) (most : ℕ) (small : IsBounded most t) where
   -- the policy was counted over the schema after at most k commands, whose fields it uses
   pub record WasCounted (k : ℕ) (p : Policy) : Type 0 where
     pub at : ℕ
     pub early : at ≤ k
     pub uses : AllByRecursion (IsThere (schema_at t at)) (policy_uses_of p)
-    pub within : PolicyIsSmall most (schema_at t at) p
+    pub within : PolicyIsBounded most (schema_at t at) p
 
   pub all-counted : (k : ℕ) → k ≤ count t → AllByRecursion (OfModel (WasCounted k)) (schema_at t k).models
   all-counted zero within =
       let s : Schema = schema_at t 0 in
-      models-together (PolicyIsSmall most s) (λ p. AllByRecursion (IsThere s) (policy_uses_of p)) (WasCounted 0) (λ p one two. record { at = 0; early = omega arith; uses = two; within = one })
+      models-together (PolicyIsBounded most s) (λ p. AllByRecursion (IsThere s) (policy_uses_of p)) (WasCounted 0) (λ p one two. record { at = 0; early = omega arith; uses = two; within = one })
       s.models small.first (all-there s (is.proper 0 within).typed)
   all-counted (suc k) within =
       let s : Schema = schema_at t k in
       let later : Schema = schema_at t (suc k) in
       let c = command-there t is k (omega (arith, within)) in
       let after = policies-after most s later (WasCounted k) c.0 (small.commands k c.0 c.1) (all-counted k (omega (arith, within))) in
-      models-together (λ p. WasCounted k p ⊎ PolicyIsSmall most later p) (λ p. AllByRecursion (IsThere later) (policy_uses_of p)) (WasCounted (suc k))
+      models-together (λ p. WasCounted k p ⊎ PolicyIsBounded most later p) (λ p. AllByRecursion (IsThere later) (policy_uses_of p)) (WasCounted (suc k))
       (λ p one two.
       elim one [
         | inl old ↦ record { at = old.at; early = let less = old.early in omega (arith, less); uses = old.uses; within = old.within }
         | inr new ↦ record { at = suc k; early = omega arith; uses = two; within = new }
-      ]) later.models (subst (λ (u : Schema). AllByRecursion (OfModel (λ p. WasCounted k p ⊎ PolicyIsSmall most later p)) u.models) (sym (is.steps k c.0 c.1)) after)
+      ]) later.models (subst (λ (u : Schema). AllByRecursion (OfModel (λ p. WasCounted k p ⊎ PolicyIsBounded most later p)) u.models) (sym (is.steps k c.0 c.1)) after)
       (all-there later (is.proper (suc k) within).typed)
 
   pub in-force : (k : ℕ) → k ≤ count t → (target : Target) (right : Right) (p : Policy) → policy_at t k target right ≡ Some p → WasCounted k p

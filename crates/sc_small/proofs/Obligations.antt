@@ -29,7 +29,7 @@ use Rattle.sc_duty.specs.Sizes.{term_size, size, row, other, policy_size_over, i
 use Rattle.sc_duty.proofs.Listed.{from-list}
 use Rattle.sc_proper.proofs.Lists.{all-back}
 use Rattle.sc_small.specs.Asked.{IsOne, policy_uses_of}
-use Rattle.sc_small.specs.Small.{CommandIsSmall, IsSmall, KeepsTruths, FormulasAreSmall}
+use Rattle.sc_small.specs.Small.{CommandIsBounded, IsBounded, KeepsTruths, FormulasAreSmall}
 use Rattle.sc_small.proofs.Within.{constant-less}
 use Rattle.sc_small.proofs.WithinSets.{allowed-less, init_reach-less}
 use Rattle.sc_small.proofs.Counted.{one-who}
@@ -70,7 +70,7 @@ principal-small : (t : Script) (a : Kind) (above n : ℕ) (k : Who → ℕ → F
 principal-small t (kind.Static i) above n k each = let one = each (static i) above tt in omega (arith, one)
 principal-small t (kind.Model m) above n k each = let one = each (record_at m (bound (sort_of t.start m) above)) (above + 1) refl in omega (arith, one)
 
-module _ (t : Script) (is : IsScript t) (most : ℕ) (some : 1 ≤ most) (few : most < most_size) (small : IsSmall most t) (keeps : KeepsTruths t) where
+module _ (t : Script) (is : IsScript t) (most : ℕ) (some : 1 ≤ most) (few : most < most_size) (small : IsBounded most t) (keeps : KeepsTruths t) where
   -- ---- rights
 
   right-small : (k : ℕ) → k ≤ count t → (target : Target) (right : Right) (r : Term) (q : Who) → term_size r ≡ 1 → IsOne q → (sign : Bool) (above : ℕ)
@@ -142,7 +142,7 @@ module _ (t : Script) (is : IsScript t) (most : ℕ) (some : 1 ≤ most) (few : 
       let F : ℕ → ℕ = λ number. size (init_reach s (written_out s s.added) other init row number 2) in
       let zero-at : 0 + i ≡ i = omega arith in
       let summed : F i ≤ sum (map F (range_with_len 0 (length (init_uses_of init)))) = subst (λ (n : ℕ). F n ≤ sum (map F (range_with_len 0 (length (init_uses_of init))))) zero-at (in-sum F 0 (length (init_uses_of init)) i less) in
-      let command : CommandIsSmall most s (add_field m f init) = small.commands k (add_field m f init) here in
+      let command : CommandIsBounded most s (add_field m f init) = small.commands k (add_field m f init) here in
       let whole : init_size_over s (written_out s s.added) f.ty init ≤ most = uncapped _ _ most most_size command.1 few in
       omega (arith, reach-at, summed, whole)
 

@@ -4,7 +4,7 @@ use Rattle.std.specs.List.{AllByRecursion}
 use Rattle.sc_schema.specs.Schema.{Schema}
 use Rattle.sc_specs.specs.Sizes.{most_size}
 use Rattle.sc_duty.specs.Sizes as counted
-use Rattle.sc_small.specs.Small.{ModelIsSmall, IsSmall}
+use Rattle.sc_small.specs.Small.{ModelIsBounded, IsBounded}
 use Rattle.sc_small.specs.Typed.{TypedFormulasAreSmall}
 use Rattle.sc_small.proofs.Obligations.{formulas_are_small}
 use Rattle.sc_small.proofs.TypedSpec.{spec-small}
@@ -13,8 +13,8 @@ use Rattle.sc_small.proofs.TypedScript.{script-small}
 pub typed_formulas_are_small : TypedFormulasAreSmall
 typed_formulas_are_small spec s script t typed-spec typed-script is keeps duty listed =
     let given = script-small s script t typed-script in
-    let small : IsSmall most_size t = record {
-      first = subst (λ (u : Schema). AllByRecursion (ModelIsSmall most_size u) u.models) (sym given.first) (spec-small spec s typed-spec);
+    let small : IsBounded most_size t = record {
+      first = subst (λ (u : Schema). AllByRecursion (ModelIsBounded most_size u) u.models) (sym given.first) (spec-small spec s typed-spec);
       commands = given.commands;
     } in
     let some : 1 ≤ most_size = omega arith in

@@ -27,7 +27,7 @@ use Rattle.sc_commands.specs.declared.thing.Thing.TheVariants as the
 use Rattle.sc_commands.specs.Commands.{given_places, given_sizes, command_places, command_sizes, command_is_small, typed_command}
 use Rattle.sc_commands.specs.Resolved.{added_field, added_static, created, field_seen, given, init_over, known_field, known_model, known_static, new_field_in, new_principal, reason_given, removed_field, removed_model, removed_static, resolved, unused, updated_field, updated_model, weakened_field, weakened_model}
 use Rattle.sc_commands.specs.Scripts.{Steps, Stepped, no_steps, one_step, script_from, steps, then_steps, typed_script, whole_script}
-use Rattle.sc_small.specs.Small.{GivenAreSmall, CommandIsSmall}
+use Rattle.sc_small.specs.Small.{GivenAreBounded, CommandIsBounded}
 use Rattle.sc_scripts.specs.Counted.{counted}
 use Rattle.sc_proper.proofs.Resolves.{bound, ok-same}
 use Rattle.sc_small.proofs.TypedSpec.{all-small, model-shaped, model-long, model-small}
@@ -42,14 +42,14 @@ given-long s m (Some p) q e =
     ap (λ (o : Option Policy). length (option_to_list o)) (sym (ok-same (Some policy) q is))
 
 module _ (after : Schema) where
-  each-small : (one other : Option Policy) → AllByRecursion (λ n. n ≤ most_size) (given_sizes counted after one other) → GivenAreSmall most_size after one other
+  each-small : (one other : Option Policy) → AllByRecursion (λ n. n ≤ most_size) (given_sizes counted after one other) → GivenAreBounded most_size after one other
   each-small None None h = (tt, tt)
   each-small None (Some q) h = (tt, h.0)
   each-small (Some p) None h = (h.0, tt)
   each-small (Some p) (Some q) h = (h.0, h.1.0)
 
   given-small : (s : Schema) (m : ℕ) (p q : Option tree_policy.Policy) (one other : Option Policy) → given s m p ≡ Ok one → given s m q ≡ Ok other
-      → are_small (given_sizes counted after one other) (given_places p q) ≡ Ok tt → GivenAreSmall most_size after one other
+      → are_small (given_sizes counted after one other) (given_places p q) ≡ Ok tt → GivenAreBounded most_size after one other
   given-small s m p q one other h k e =
       let first = given-long s m p one h in
       let second = given-long s m q other k in
@@ -69,7 +69,7 @@ module _ (after : Schema) where
 
   -- a command with what was counted of it
   abbrev Counts : written.Command → Command → Type 0
-  Counts c command = are_small (command_sizes counted after command) (command_places c) ≡ Ok tt → CommandIsSmall most_size after command
+  Counts c command = are_small (command_sizes counted after command) (command_places c) ≡ Ok tt → CommandIsBounded most_size after command
 
   created-small : (s : Schema) (d : ModelDef) (at : ℕ) (command : Command) → created s d ≡ Ok command → Counts (w.CreateModel d at) command
   unfolding created created_model
@@ -188,13 +188,13 @@ module _ (after : Schema) where
   command-small s (w.WeakenPolicy model create delete reason at) command e = model-weakened s model create delete reason at command e
 
 -- a command that is typed, over the schema after it
-typed-small : (s after : Schema) (c : written.Command) (command : Command) → typed_command counted s c ≡ Ok (after, command) → CommandIsSmall most_size after command
+typed-small : (s after : Schema) (c : written.Command) (command : Command) → typed_command counted s c ≡ Ok (after, command) → CommandIsBounded most_size after command
 unfolding typed_command command_is_small
 typed-small s after c command e =
     let (found, is, e1) = bound (resolved s c) _ (after, command) e in
     let (u, small, e2) = bound (command_is_small counted (schema_after s found) found c) _ (after, command) e1 in
     let same : (schema_after s found, found) ≡ (after, command) = ok-same (schema_after s found, found) (after, command) e2 in
-    subst (λ (step : Schema × Command). CommandIsSmall most_size step.0 step.1) same (command-small (schema_after s found) s c found is small)
+    subst (λ (step : Schema × Command). CommandIsBounded most_size step.0 step.1) same (command-small (schema_after s found) s c found is small)
 
 -- ---- commands in turn
 
@@ -202,7 +202,7 @@ abbrev pub AreSmall : List Command → List Schema → Type 0
 AreSmall [] [] = Unit {0}
 AreSmall [] (a ∷ rest) = ⊥
 AreSmall (c ∷ cs) [] = ⊥
-AreSmall (c ∷ cs) (a ∷ rest) = CommandIsSmall most_size a c × AreSmall cs rest
+AreSmall (c ∷ cs) (a ∷ rest) = CommandIsBounded most_size a c × AreSmall cs rest
 
 steps-same : (a b : Steps) → ◌≡◌ {A = Stepped} (Ok a) (Ok b) → a ≡ b
 steps-same a b e = cc
@@ -224,16 +224,16 @@ steps-small k s (c ∷ rest) all e = at (λ after later e. steps-small (k + 1) a
     at rec (Err x) is e = absurd (cc e)
 
 small-at : (d s : Schema) (cs : List Command) (schemas : List Schema) → AreSmall cs schemas → (k : ℕ) (c : Command) → slice_get cs k ≡ Some c
-    → CommandIsSmall most_size (slice_index_or (s ∷ schemas) (suc k) d) c
+    → CommandIsBounded most_size (slice_index_or (s ∷ schemas) (suc k) d) c
 small-at d s [] schemas small k c e = absurd (cc e)
 small-at d s (x ∷ cs) [] small k c e = absurd small
-small-at d s (x ∷ cs) (a ∷ schemas) small zero c e = let same : x ≡ c = cc e in subst (CommandIsSmall most_size a) same small.0
+small-at d s (x ∷ cs) (a ∷ schemas) small zero c e = let same : x ≡ c = cc e in subst (CommandIsBounded most_size a) same small.0
 small-at d s (x ∷ cs) (a ∷ schemas) small (suc k) c e = small-at d a cs schemas small.1 k c e
 
 -- the commands of a script, and the schema that it begins with
 pub record IsCounted (s : Schema) (t : Script) : Type 0 where
   pub first : slice_index_or t.schemas 0 t.start ≡ s
-  pub commands : (k : ℕ) (c : Command) → slice_get t.commands k ≡ Some c → CommandIsSmall most_size (slice_index_or t.schemas (suc k) t.start) c
+  pub commands : (k : ℕ) (c : Command) → slice_get t.commands k ≡ Some c → CommandIsBounded most_size (slice_index_or t.schemas (suc k) t.start) c
 
 pub script-small : (s : Schema) (script : written_script.Script) (t : Script) → typed_script counted s script ≡ Ok t → IsCounted s t
 unfolding typed_script script_from

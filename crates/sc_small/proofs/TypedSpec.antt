@@ -20,7 +20,7 @@ use Rattle.sc_specs.specs.NewNames.{new_static}
 use Rattle.sc_specs.specs.Sizes.{most_size, is_small, are_small, field_places, field_sizes, model_places, model_sizes, models_are_small}
 use Rattle.sc_proper.proofs.Lists.{all-front, all-back}
 use Rattle.sc_proper.proofs.Resolves.{bound, ok-same}
-use Rattle.sc_small.specs.Small.{ModelIsSmall, FieldIsSmall}
+use Rattle.sc_small.specs.Small.{ModelIsBounded, FieldIsBounded}
 use Rattle.sc_scripts.specs.Counted.{counted}
 use Rattle.sc_specs.specs.Specs.{empty_schema, next_static, resolved_spec, typed_spec, with_static}
 
@@ -130,24 +130,24 @@ module _ (s : Schema) where
         length-append (model_places d) (flat_map model_places defs),
       )
 
-  fields-small : (fields : List FieldInfo) → AllByRecursion (λ n. n ≤ most_size) (flat_map (field_sizes counted s) fields) → AllByRecursion (FieldIsSmall most_size s) fields
+  fields-small : (fields : List FieldInfo) → AllByRecursion (λ n. n ≤ most_size) (flat_map (field_sizes counted s) fields) → AllByRecursion (FieldIsBounded most_size s) fields
   fields-small [] h = tt
   fields-small (f ∷ fields) h = ((h.0, h.1.0), fields-small fields h.1.1)
 
-  pub model-small : (i : ModelInfo) → AllByRecursion (λ n. n ≤ most_size) (model_sizes counted s i) → ModelIsSmall most_size s i
+  pub model-small : (i : ModelInfo) → AllByRecursion (λ n. n ≤ most_size) (model_sizes counted s i) → ModelIsBounded most_size s i
   model-small i h = (h.0, h.1.0, fields-small i.fields h.1.1)
 
-  models-small : (models : List ModelInfo) → AllByRecursion (λ n. n ≤ most_size) (flat_map (model_sizes counted s) models) → AllByRecursion (ModelIsSmall most_size s) models
+  models-small : (models : List ModelInfo) → AllByRecursion (λ n. n ≤ most_size) (flat_map (model_sizes counted s) models) → AllByRecursion (ModelIsBounded most_size s) models
   models-small [] h = tt
   models-small (i ∷ models) h = (
     model-small i (all-front (λ n. n ≤ most_size) (model_sizes counted s i) (flat_map (model_sizes counted s) models) h),
     models-small models (all-back (λ n. n ≤ most_size) (model_sizes counted s i) (flat_map (model_sizes counted s) models) h),
   )
 
-pub spec-small : (spec : Spec) (s : Schema) → typed_spec counted spec ≡ Ok s → AllByRecursion (ModelIsSmall most_size s) s.models
+pub spec-small : (spec : Spec) (s : Schema) → typed_spec counted spec ≡ Ok s → AllByRecursion (ModelIsBounded most_size s) s.models
 unfolding typed_spec models_are_small
 spec-small spec s e =
     let (found, is, e1) = bound (resolved_spec spec) _ s e in
     let (u, small, e2) = bound (models_are_small counted found found.models spec.models) _ s e1 in
     let all = all-small (flat_map (model_sizes counted found) found.models) (flat_map model_places spec.models) (models-long found found.models spec.models (spec-shaped spec found is)) small in
-    subst (λ (t : Schema). AllByRecursion (ModelIsSmall most_size t) t.models) (ok-same found s e2) (models-small found found.models all)
+    subst (λ (t : Schema). AllByRecursion (ModelIsBounded most_size t) t.models) (ok-same found s e2) (models-small found found.models all)

@@ -14,38 +14,38 @@ use Rattle.sc_small.specs.Asked.{holds_truth}
 -- ---- what is within a limit over a schema
 
 module _ (most : ℕ) (s : Schema) where
-  abbrev pub PolicyIsSmall : Policy → Type 0
-  PolicyIsSmall p = policy_size s p ≤ most
+  abbrev pub PolicyIsBounded : Policy → Type 0
+  PolicyIsBounded p = policy_size s p ≤ most
 
-  abbrev pub GivenAreSmall : Option Policy → Option Policy → Type 0
-  GivenAreSmall one other = IfSome one PolicyIsSmall × IfSome other PolicyIsSmall
+  abbrev pub GivenAreBounded : Option Policy → Option Policy → Type 0
+  GivenAreBounded one other = IfSome one PolicyIsBounded × IfSome other PolicyIsBounded
 
-  abbrev pub FieldIsSmall : FieldInfo → Type 0
-  FieldIsSmall f = PolicyIsSmall f.read × PolicyIsSmall f.write
+  abbrev pub FieldIsBounded : FieldInfo → Type 0
+  FieldIsBounded f = PolicyIsBounded f.read × PolicyIsBounded f.write
 
-  abbrev pub ModelIsSmall : ModelInfo → Type 0
-  ModelIsSmall info = PolicyIsSmall info.create × PolicyIsSmall info.delete × AllByRecursion FieldIsSmall info.fields
+  abbrev pub ModelIsBounded : ModelInfo → Type 0
+  ModelIsBounded info = PolicyIsBounded info.create × PolicyIsBounded info.delete × AllByRecursion FieldIsBounded info.fields
 
   -- the policies and the initialiser that the command gives
-  abbrev pub CommandIsSmall : Command → Type 0
-  CommandIsSmall (create_model info) = ModelIsSmall info
-  CommandIsSmall (delete_model m) = Unit {0}
-  CommandIsSmall (add_static info) = Unit {0}
-  CommandIsSmall (remove_static n) = Unit {0}
-  CommandIsSmall (add_principal m) = Unit {0}
-  CommandIsSmall (add_field m f init) = FieldIsSmall f × (init_size s f.ty init ≤ most)
-  CommandIsSmall (remove_field m f) = Unit {0}
-  CommandIsSmall (update_field m f read write) = GivenAreSmall read write
-  CommandIsSmall (weaken_field m f read write reason) = GivenAreSmall read write
-  CommandIsSmall (update_model m create delete) = GivenAreSmall create delete
-  CommandIsSmall (weaken_model m create delete reason) = GivenAreSmall create delete
+  abbrev pub CommandIsBounded : Command → Type 0
+  CommandIsBounded (create_model info) = ModelIsBounded info
+  CommandIsBounded (delete_model m) = Unit {0}
+  CommandIsBounded (add_static info) = Unit {0}
+  CommandIsBounded (remove_static n) = Unit {0}
+  CommandIsBounded (add_principal m) = Unit {0}
+  CommandIsBounded (add_field m f init) = FieldIsBounded f × (init_size s f.ty init ≤ most)
+  CommandIsBounded (remove_field m f) = Unit {0}
+  CommandIsBounded (update_field m f read write) = GivenAreBounded read write
+  CommandIsBounded (weaken_field m f read write reason) = GivenAreBounded read write
+  CommandIsBounded (update_model m create delete) = GivenAreBounded create delete
+  CommandIsBounded (weaken_model m create delete reason) = GivenAreBounded create delete
 
 -- ---- along a script
 
 -- The policies of the first schema are within the limit over it, and what each command gives over the schema after the command.
-pub record IsSmall (most : ℕ) (t : Script) : Type 0 where
-  pub first : AllByRecursion (ModelIsSmall most (schema_at t 0)) (schema_at t 0).models
-  pub commands : (k : ℕ) (c : Command) → command_at t k ≡ Some c → CommandIsSmall most (schema_at t (suc k)) c
+pub record IsBounded (most : ℕ) (t : Script) : Type 0 where
+  pub first : AllByRecursion (ModelIsBounded most (schema_at t 0)) (schema_at t 0).models
+  pub commands : (k : ℕ) (c : Command) → command_at t k ≡ Some c → CommandIsBounded most (schema_at t (suc k)) c
 
 -- the field goes with the command
 abbrev pub Takes : Command → Use → Type 0
@@ -74,5 +74,5 @@ KeepsTruths t =
 -- An obligation has two quantifiers and a conjunction with two policies, or three and two conjunctions with two policies and what a use reads.
 abbrev pub FormulasAreSmall : Type 0
 FormulasAreSmall =
-    (t : Script) (most : ℕ) → IsScript t → 1 ≤ most → most < most_size → IsSmall most t → KeepsTruths t → (duty : Duty) → Contains (obligations_of t) duty
+    (t : Script) (most : ℕ) → IsScript t → 1 ≤ most → most < most_size → IsBounded most t → KeepsTruths t → (duty : Duty) → Contains (obligations_of t) duty
     → size (formula_of t duty) ≤ 5 + 3 * most

@@ -341,7 +341,49 @@ const REFUSED: [Row; 13] = [
 ];
 
 /// Each cause of a fault of typing, at the name or the first token of the part that it is about.
-const FAULTS: [Row; 12] = [
+const FAULTS: [Row; 19] = [
+    Row {
+        spec: USERS,
+        script: b"User::AddField(x: Int {read: public, write: none}, u -> u.nope)",
+        status: Status::TypesRefused,
+        report: b"s.scm: command 1: unknown at 58\n",
+    },
+    Row {
+        spec: USERS,
+        script: b"User::AddField(x: Int {read: public, write: none}, u -> u.email)",
+        status: Status::TypesRefused,
+        report: b"s.scm: command 1: wrong type at 56\n",
+    },
+    Row {
+        spec: NOTES,
+        script: b"Note::UpdateFieldPolicy(body, {write: n -> [n]})",
+        status: Status::TypesRefused,
+        report: b"s.scm: command 1: not principal at 44\n",
+    },
+    Row {
+        spec: NOTES,
+        script: b"CreateModel(model Tag {create: none, delete: none, of: Id(Ghost) {read: none, write: none}})",
+        status: Status::TypesRefused,
+        report: b"s.scm: command 1: unknown at 58\n",
+    },
+    Row {
+        spec: NOTES,
+        script: b"CreateModel(model Tag {create: t -> [t], delete: none})",
+        status: Status::TypesRefused,
+        report: b"s.scm: command 1: not principal at 37\n",
+    },
+    Row {
+        spec: NOTES,
+        script: b"CreateModel(model Tag {create: none, delete: none, name: Text {read: t -> [t.name], write: none}})",
+        status: Status::TypesRefused,
+        report: b"s.scm: command 1: wrong type at 75\n",
+    },
+    Row {
+        spec: NOTES,
+        script: b"CreateModel(model Visitor {create: none, delete: none})",
+        status: Status::TypesRefused,
+        report: b"s.scm: command 1: twice at 18\n",
+    },
     Row {
         spec: USERS,
         script: b"User::AddField(age: Int {read: none, write: none}, u -> 0)",
