@@ -29,7 +29,8 @@ impl Model for Rings {
 
 impl Rings {
     /// Empty lists, as many as `lists`, for nodes below `nodes`. Takes all the memory there will
-    /// be.
+    /// be: 8 bytes for each node and each list, which together are fewer than 2^32, else there is
+    /// no memory.
     pub fn new(alloc: Global, lists: usize, nodes: usize) -> Result<Rings, AllocError>
         requires lists_fit { lists < 2 ^ 32 }
         requires nodes_fit { nodes < 2 ^ 32 }

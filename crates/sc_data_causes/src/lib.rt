@@ -3,6 +3,8 @@
 //! `specs/Causes.antt` says which causes stand in a list of tokens, and that the first of them
 //! refuses it. The law says that each list has trees or is refused, for one cause at one place, and
 //! that the reader of the grammar answers so.
+//!
+//! - `laws`: these laws, on functions without parameters.
 #![tactic(auto)]
 
 mod laws;

@@ -1,4 +1,2 @@
-pub mod Encoding
-pub mod Lists
 pub mod Sharing
 pub mod Values

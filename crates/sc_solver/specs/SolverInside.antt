@@ -3,7 +3,7 @@ use Rattle.std.specs.Prelude.{◌≡◌, ℕ, ◌<◌, Bool, List, length, Optio
 use Rattle.std.specs.Bool.{OnTrue}
 use Rattle.sc_solver.specs.declared.literal.PLit.{PLit}
 use Rattle.sc_solver.specs.declared.trail.Entry.{Entry}
-use Rattle.sc_solver.specs.declared.watches.TheConstants.{MOST}
+use Rattle.sc_solver.specs.declared.limits.TheConstants.{TOO_MANY}
 use Rattle.sc_solver.specs.Assumed.{values_of}
 use Rattle.sc_solver.specs.Clauses.{IsWithin}
 use Rattle.sc_solver.specs.Steps.{IsHeld}
@@ -11,7 +11,7 @@ use Rattle.sc_solver.specs.Steps.{IsHeld}
 -- the trail of the search holds an assignment where there is one
 pub record IsSolver (solved : Bool) (vars : ℕ) (clauses : List (List PLit)) (es : List Entry) (assumed_vars : ℕ) : Type 0 where
   pub held : OnTrue solved (IsHeld vars clauses es)
-  pub few : length clauses < MOST
+  pub few : length clauses < TOO_MANY
   pub within : All (IsWithin vars) clauses
   pub assumed_each : assumed_vars ≡ vars
 

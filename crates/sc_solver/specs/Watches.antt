@@ -9,7 +9,7 @@ use Rattle.sc_solver.specs.declared.reason.Reason.TheVariants.{Given, Learned, U
 use Rattle.sc_solver.specs.declared.trail.Entry.{Entry}
 use Rattle.sc_solver.specs.declared.units.ClauseState.{ClauseState}
 use Rattle.sc_solver.specs.declared.units.ClauseState.TheVariants.{Conflict, UnitLiteral, Open}
-use Rattle.sc_solver.specs.declared.watches.TheConstants.{MOST}
+use Rattle.sc_solver.specs.declared.limits.TheConstants.{TOO_MANY}
 use Rattle.sc_solver.specs.Learned.{LearnedView, clause_of}
 use Rattle.sc_solver.specs.Units.{IsFalseIn, IsUnit}
 
@@ -23,7 +23,7 @@ pub record AreWatches (vars learned lists nodes : ℕ) (watched : List PLit) : T
   pub list_each : lists ≡ 2 * vars
   pub literal_each : length watched ≡ nodes
   pub within : All (λ (l : PLit). l.var < vars) watched
-  pub few_vars : vars < MOST
+  pub few_vars : vars < TOO_MANY
   pub few_nodes : nodes < 2 ^ 32
   pub few_learned : learned < 2 ^ 20
 

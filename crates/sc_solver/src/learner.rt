@@ -24,6 +24,7 @@ use crate::atoms::Atoms;
 use crate::clauses::Clauses;
 use crate::context::Context;
 use crate::learned::Learned;
+use crate::limits::TOO_MANY;
 use crate::literal::PLit;
 use crate::preferences::Preferences;
 use crate::progress::Progress;
@@ -31,7 +32,7 @@ use crate::reason::Reason;
 use crate::restarts::Restarts;
 use crate::trail::Entry;
 use crate::units::ClauseState;
-use crate::watches::{MOST, Watches};
+use crate::watches::Watches;
 use sc_procedure::{LitBuf, Theory};
 use std::alloc::{AllocError, Global};
 use std::marker::Model;
@@ -100,8 +101,8 @@ impl<T: Theory + Drop> Learner<T> {
         requires one_each { length atoms ≡ vars }
         requires taken { All (IsTaken (T.takes theory)) atoms }
         requires within { All (IsWithin vars) clauses.list }
-        requires few_vars { vars < MOST }
-        requires few_clauses { length clauses.list < MOST }
+        requires few_vars { vars < TOO_MANY }
+        requires few_clauses { length clauses.list < TOO_MANY }
         ensures state { IfOk result (λ s. s.state ≡ record {
           vars = vars;
           clauses = clauses.list;

@@ -29,6 +29,7 @@
 //! - `trail`: the literals that are true so far, and which of them were decided.
 //! - `clauses`: clauses in one flat list.
 //! - `room`: pushes for which memory is there.
+//! - `limits`: how many variables and clauses there are at most.
 //! - `literal`: `PLit`, a variable with a sign.
 #![tactic(auto)]
 
@@ -41,6 +42,7 @@ mod context;
 mod heap;
 mod learned;
 mod learner;
+pub mod limits;
 mod literal;
 mod looking;
 mod marking;

@@ -11,9 +11,9 @@ ghost use Rattle.sc_solver.specs.Values.{Follow, IsPropagated, Stay, set_value};
 use crate::atoms::Atoms;
 use crate::clauses::Clauses;
 use crate::learner::Learner;
+use crate::limits::TOO_MANY;
 use crate::literal::PLit;
 use crate::trail::{Entry, Trail};
-use crate::watches::MOST;
 use sc_procedure::Theory;
 use std::alloc::{AllocError, Global};
 use std::marker::Model;
@@ -41,7 +41,7 @@ pub enum Prop {
 ///
 /// An assignment is lawful where it meets each clause and the literals of all atoms, each the one
 /// for its variable's value, have a model. All memory but that of clauses which are added is taken
-/// by `new`. The search learns a clause from each conflict and goes back over the decisions that
+/// by `new` or `with_clauses`. The search learns a clause from each conflict and goes back over the decisions that
 /// had no part in it: Marques-Silva and Sakallah, "GRASP: a search algorithm for propositional
 /// satisfiability" (1999). Variables can also be assumed, and what follows from the clauses then be
 /// set, with no search and no theory.
@@ -93,8 +93,8 @@ impl<T: Theory + Drop> Solver<T> {
         requires one_each { vec_len atoms ≡ vars }
         requires taken { All (IsTaken (T.takes theory)) atoms.items }
         requires within { All (λ clause. IsWithin vars clause.items) clauses.now }
-        requires few_vars { vars < MOST }
-        requires few_clauses { length clauses.now < MOST }
+        requires few_vars { vars < TOO_MANY }
+        requires few_clauses { length clauses.now < TOO_MANY }
         ensures { IfOk result (λ s. s ≡ record {
           vars = vars;
           clauses = map (λ clause. clause.items) clauses.now;
@@ -122,8 +122,8 @@ impl<T: Theory + Drop> Solver<T> {
         requires one_each { length atoms ≡ vars }
         requires taken { All (IsTaken (T.takes theory)) atoms }
         requires within { All (IsWithin vars) clauses.list }
-        requires few_vars { vars < MOST }
-        requires few_clauses { length clauses.list < MOST }
+        requires few_vars { vars < TOO_MANY }
+        requires few_clauses { length clauses.list < TOO_MANY }
         ensures { IfOk result (λ s. s ≡ record {
           vars = vars;
           clauses = clauses.list;
@@ -150,7 +150,7 @@ impl<T: Theory> Solver<T> {
     /// before.
     pub fn add_clause(&mut self, clause: &[PLit]) -> Result<(), AllocError>
         requires within { IsWithin self.old.vars clause.now }
-        requires few { length self.old.clauses + 1 < MOST }
+        requires few { length self.old.clauses + 1 < TOO_MANY }
         ensures clauses { OnOk result (self.new.clauses ≡ self.old.clauses ++ clause.now ∷ []) }
         ensures unset { OnOk result (self.new.assignment ≡ None) }
         ensures no_value { OnOk result (self.new.values ≡ replicate self.old.vars None) }

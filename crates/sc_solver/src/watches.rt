@@ -7,6 +7,7 @@ ghost use Rattle.sc_solver.specs.Watches.{IsLookAt, IsMet, clause_in};
 
 use crate::clauses::Clauses;
 use crate::learned::Learned;
+use crate::limits::TOO_MANY;
 use crate::literal::PLit;
 use crate::looking::{Look, latest_two, look_into};
 use crate::reason::Reason;
@@ -16,9 +17,6 @@ use link_arena::Rings;
 use std::alloc::{AllocError, Global};
 use std::marker::Model;
 use std::mem;
-
-/// How many variables, and how many clauses, there may be.
-pub const MOST: usize = 2_000_000_000;
 
 /// How many more clauses have room once there is none for one that is added.
 const FEWEST_MORE: usize = 64;
@@ -82,9 +80,9 @@ impl Watches {
         learned: usize,
         clauses: &Clauses,
     ) -> Result<Watches, AllocError>
-        requires few_vars { vars < MOST }
+        requires few_vars { vars < TOO_MANY }
         requires few_learned { learned < 2 ^ 20 }
-        requires few_clauses { length clauses.now.list < MOST }
+        requires few_clauses { length clauses.now.list < TOO_MANY }
         requires within { All (IsWithin vars) clauses.now.list }
         ensures { IfOk result (λ w. w ≡ record { vars = vars; learned = learned }) }
     {
@@ -97,9 +95,9 @@ impl Watches {
 
     /// No watches, with so many slots of each kind.
     fn empty(alloc: Global, vars: u32, learned: usize, given: usize) -> Result<Watches, AllocError>
-        requires few_vars { vars < MOST }
+        requires few_vars { vars < TOO_MANY }
         requires few_learned { learned < 2 ^ 20 }
-        requires few_given { given < MOST }
+        requires few_given { given < TOO_MANY }
         ensures { IfOk result (λ w. w ≡ record { vars = vars; learned = learned }) }
     {
         let nodes = if vars == 0 { 0 } else { 2 * (learned + given) };
@@ -122,7 +120,7 @@ impl Watches {
 
     /// Has slots for so many given clauses, and so for one that is added.
     pub fn reserve(&mut self, given: usize) -> Result<(), AllocError>
-        requires { given < MOST }
+        requires { given < TOO_MANY }
         ensures { self.new ≡ self.old }
     {
         if 2 * (self.learned + given) > self.watched.len() {
@@ -135,7 +133,7 @@ impl Watches {
     fn grow(&mut self, given: usize) -> Result<(), AllocError>
         ensures { self.new ≡ self.old }
     {
-        let given = given.min(MOST - 1);
+        let given = given.min(TOO_MANY - 1);
         let mut larger = Watches::empty(self.alloc, self.vars, self.learned, given)?;
         for node in 0..self.watched.len() {
             if self.rings.is_linked(node as u32) {
@@ -418,7 +416,7 @@ impl Watches {
 
 /// The list of a literal.
 fn list_of(literal: PLit) -> u32
-    requires { literal.var < MOST }
+    requires { literal.var < TOO_MANY }
     ensures { result < 2 * literal.var + 2 }
 {
     2 * literal.var + u32::from(literal.plus)

@@ -3,6 +3,8 @@
 //! The canonical spelling of a tree spells that tree, offsets aside, within the limits that any
 //! spelling of it keeps. No spelling of an expression, a set or a policy has fewer tokens. The same
 //! tokens at other places spell the same tree, offsets aside.
+//!
+//! - `laws`: these laws, on functions without parameters.
 #![tactic(auto)]
 
 mod laws;

@@ -14,11 +14,9 @@ ghost use Rattle.sc_syntax.specs.Reads.{IsStopWithin, Reads, cause_of};
 use crate::pieces::{Piece, Word};
 use crate::reserved::{is_reserved_lower, is_reserved_upper};
 use crate::stop::Stop;
+use sc_lexer::limits::LARGEST_NUMBER;
 use sc_lexer::{Token, TokenKind};
 use std::marker::Model;
-
-/// The largest number without a sign.
-const LARGEST_PLAIN: u64 = 9_223_372_036_854_775_807;
 
 /// The tokens that are left to read. Contracts see them as the list of their pieces: kind, bytes
 /// and offset.
@@ -91,7 +89,7 @@ fn is_plain(piece: &Piece<'_>) -> bool
     ensures kind { IsTrue result → piece.now.kind ≡ TokenKind.Number }
     ensures within { IsTrue result → digits_value 10 piece.now.bytes ≤ largest }
 {
-    same_kind(piece.kind(), TokenKind::Number) && piece.number() <= LARGEST_PLAIN
+    same_kind(piece.kind(), TokenKind::Number) && piece.number() < LARGEST_NUMBER
 }
 
 /// Whether a token may stand after a minus: a number other than 0.

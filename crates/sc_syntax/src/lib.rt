@@ -10,6 +10,13 @@
 //! | `pieces` | tokens with their bytes, and what names, numbers and texts they write |
 //! | `reserved` | the reserved words |
 //! | `cursor` | `Cursor`, the tokens that are left to read |
+//! | `atoms` | single tokens: names, numbers, literals and signs |
+//! | `begins` | with which token a form can begin |
+//! | `lists` | lists with separators and brackets |
+//! | `nested` | one level of nesting |
+//! | `exprs`, `sets`, `chains` | expressions, sets, and what follows a set |
+//! | `outermost` | an expression or a set that no other holds, with its budget of tokens |
+//! | `grammar` | the laws of the forms that the parsers read |
 #![tactic(auto)]
 
 mod atoms;

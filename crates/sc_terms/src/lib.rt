@@ -1,5 +1,6 @@
 //! The terms over which a formula is instantiated, their counts, and what instantiation keeps.
 //!
+//! - `limits`: how many terms and nodes an instantiation has at most.
 //! - `laws`: what holds of the formulas, the structures and the terms of any signature.
 #![tactic(auto)]
 

@@ -1,5 +1,5 @@
 -- What the grammar is written in, and what it means.
-use Rattle.std.specs.Prelude.{◌≡◌, ◌≤◌, ◌<◌, ◌⊎◌, ℕ, zero, suc, Bool, true, false, if◌then◌else◌, not, ◌&&◌, nat_le, List, [], ◌∷◌, ◌++◌, length}
+use Rattle.std.specs.Prelude.{◌≡◌, ◌≤◌, ◌<◌, ◌⊎◌, ℕ, zero, suc, ◌-◌, Bool, true, false, if◌then◌else◌, not, ◌&&◌, nat_le, List, [], ◌∷◌, ◌++◌, length}
 use Rattle.std.specs.List.{list_any}
 use Rattle.std.specs.Str.{bytes_eq}
 use Rattle.std.specs.Str.Parse.{digits_value}
@@ -7,6 +7,7 @@ use denote.Enum.Bare.{sameb}
 use Rattle.sc_lexer.specs.contracts.token.TokenKind.{the_type}
 use Rattle.sc_lexer.specs.declared.token.TokenKind.{TokenKind}
 use Rattle.sc_lexer.specs.declared.token.TokenKind.TheVariants as k
+use Rattle.sc_lexer.specs.declared.limits.TheConstants.{LARGEST_NUMBER}
 use Rattle.sc_ast.specs.Pieces.{Piece}
 use Rattle.sc_ast.specs.Words.{is_reserved_upper, is_reserved_lower}
 
@@ -30,7 +31,7 @@ same_kind = sameb the_type
 
 -- the largest number of 64 bits with a sign
 abbrev pub largest : ℕ
-largest = 9223372036854775807
+largest = LARGEST_NUMBER - 1
 
 unfoldable pub admits : Want → Piece → Bool
 admits (Sign kind) l = same_kind l.kind kind

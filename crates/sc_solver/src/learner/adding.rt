@@ -8,7 +8,7 @@ use super::Learner;
 use crate::literal::PLit;
 use crate::looking::latest_two;
 use crate::units::{ClauseState, clause_state};
-use crate::watches::MOST;
+use crate::limits::TOO_MANY;
 use sc_procedure::Theory;
 use std::alloc::AllocError;
 
@@ -17,7 +17,7 @@ impl<T: Theory> Learner<T> {
     /// memory is wanted the learner is as before.
     pub fn add_clause(&mut self, clause: &[PLit]) -> Result<(), AllocError>
         requires within { IsWithin self.old.state.vars clause.now }
-        requires few { length self.old.state.clauses + 1 < MOST }
+        requires few { length self.old.state.clauses + 1 < TOO_MANY }
         ensures problem { let clauses = self.new.state.clauses in
             SameProblem T.capacity T.takes T.models (record self.old.state { clauses = clauses })
             self.new.state }
