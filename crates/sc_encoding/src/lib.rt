@@ -1,6 +1,27 @@
-//! Clauses that say that a gate is true.
+//! Clauses that say that a gate is true, and few of them: variables of their own stand only for
+//! gates that are parts of several others, for conjunctions in disjunctions, and for inputs of
+//! several facts there (Plaisted and Greenbaum 1986; Tseitin 1968).
+//!
+//! - `encoding`: `encode`, the clauses of a gate.
+//! - `conjunctions`: the clauses that a gate, or all of some gates, are true.
+//! - `disjunctions`: the clause that one of two gates is true.
+//! - `inputs`: inputs as parts of disjunctions.
+//! - `parts`: `Parts`, what a disjunction is made of so far.
+//! - `board`: `Board`, the clauses and the variables so far.
+//! - `names`: `Names`, which variable stands for which gate or input.
+//! - `literals`: variables with signs.
+//! - `uses`: how often a gate is a part of others.
 #![tactic(auto)]
 
+mod board;
+mod conjunctions;
+mod disjunctions;
 mod encoding;
+mod inputs;
+mod literals;
+mod names;
+mod parts;
+mod source;
+mod uses;
 
 pub use encoding::{Encoding, encode};

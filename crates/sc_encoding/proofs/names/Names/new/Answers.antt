@@ -1,0 +1,19 @@
+use Rattle.std.proofs.Common.{List, Option, None, ℕ, [], subst, sym, arith, replicate, length, ap, ◌∙◌, ◌≡◌}
+use Rattle.sc_encoding.specs.declared.names.Owner.{Owner}
+use Rattle.sc_encoding.specs.Names.{NamesView, AreNames}
+use Rattle.sc_encoding.proofs.NamesLaws.{none_named, length_blank}
+use Rattle.sc_encoding.proofs.names.Names.new.Goals as goal
+
+pub invariant_of-result : goal.invariant_of-result
+invariant_of-result c =
+    let none = none_named c.args.base c.args.gates c.args.inputs (omega arith) in
+    let P : List Owner → Type 0 = λ owners. AreNames c.args.base owners c.in_ok-blank.field-0.items c.in_ok-blank-2.field-0.items in
+    let Q : List (Option ℕ) → Type 0 = λ gates. AreNames c.args.base [] gates c.in_ok-blank-2.field-0.items in
+    let R : List (Option ℕ) → Type 0 = λ inputs. AreNames c.args.base [] (replicate c.args.gates None) inputs in
+    subst P (sym c.new.ensures.items) (subst Q (sym c.in_ok-blank.ensures) (subst R (sym c.in_ok-blank-2.ensures) none))
+
+pub returns : goal.returns
+returns c =
+    let view : List Owner → ℕ → NamesView = λ owners places. record { base = c.args.base; owners = owners; places = places } in
+    let places : length c.in_ok-blank.field-0.items ≡ c.args.gates = ap length c.in_ok-blank.ensures ∙ length_blank c.args.gates in
+    ap (λ owners. view owners (length c.in_ok-blank.field-0.items)) c.new.ensures.items ∙ ap (view []) places

@@ -1,0 +1,19 @@
+use Rattle.std.proofs.Common.{subst, ◌∙◌, sym, ap, slice_get, ◌+◌, refl, arith}
+use Rattle.sc_encoding.specs.Names.{NamesView, IsNamed}
+use Rattle.sc_encoding.specs.declared.names.Owner.TheVariants.{Input}
+use Rattle.sc_encoding.proofs.NamesLaws.{place_room}
+use Rattle.sc_encoding.proofs.names.Names.of_input.Goals as goal
+
+pub overflow_add-result : goal.overflow_add-result
+overflow_add-result c =
+    let s = c.self.inside in
+    let at = ap (λ xs. slice_get xs c.args.input) (sym c.as_slice.ensures.value) ∙ c.in-Some.ensures in
+    let room = place_room s.base s.owners.items s.gates.items s.inputs.items c.self.invariant (Input c.args.input) c.in-Some.place (c.self.invariant.input_named c.args.input c.in-Some.place at) in
+    omega (arith, room)
+
+pub returns-in-Some : goal.returns-in-Some
+returns-in-Some c =
+    let s = c.self.inside in
+    let at = ap (λ xs. slice_get xs c.args.input) (sym c.as_slice.ensures.value) ∙ c.in-Some.ensures in
+    let P : NamesView → Type 0 = λ names. IsNamed names (Input c.args.input) (s.base + c.in-Some.place) in
+    subst P c.self.view_is (c.in-Some.place, refl, c.self.invariant.input_named c.args.input c.in-Some.place at)

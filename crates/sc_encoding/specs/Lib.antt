@@ -1,0 +1,6 @@
+pub mod Encoded
+pub mod Literals
+pub mod Meaning
+pub mod Names
+pub mod Parted
+pub mod Said
