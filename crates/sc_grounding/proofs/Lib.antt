@@ -2,5 +2,4 @@ pub mod AtomsSaid
 pub mod FactsSaid
 pub mod Below
 pub mod Grounded
-pub mod Listing
 pub mod Tied

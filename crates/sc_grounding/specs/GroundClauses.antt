@@ -1,5 +1,5 @@
 -- The clauses that say that a formula holds at ground terms: their first variables are facts, and the others are those of the clauses of gates.
-use Rattle.std.specs.Prelude.{◌≡◌, ℕ, Bool, ◌⊎◌, List, [], ◌∷◌, Option, Some, length, Contains, slice_get, slice_index_or}
+use Rattle.std.specs.Prelude.{◌≡◌, ℕ, Bool, ◌⊎◌, List, [], ◌∷◌, Some, length, Contains, slice_get, slice_index_or}
 use Rattle.sc_formula.specs.declared.node.Node.{Node}
 use Rattle.sc_gates.specs.declared.gate.Literal.{Literal}
 use Rattle.sc_gates.specs.Clauses.{IsEncoding}

@@ -13,7 +13,6 @@ ghost use Rattle.sc_terms.specs.GroundTerms.{GroundTerm, no_terms};
 ghost use Rattle.sc_terms.specs.Reading.{Reads};
 ghost use Rattle.sc_term_arena.specs.declared.node.TermNode.{TermNode};
 ghost use Rattle.sc_gates.specs.Clauses.{meets_clause};
-ghost use Rattle.sc_gates.specs.Gates.{ArePlaced};
 ghost use Rattle.sc_gates.specs.declared.gate.Literal.{Literal};
 ghost use Rattle.sc_terms.specs.Passing.{IsSatisfiableOver};
 ghost use Rattle.sc_tables.specs.Clauses.{base_clauses, congruence_clauses};
@@ -27,7 +26,7 @@ ghost use Rattle.sc_instances.specs.Made.{AreInstancesOf};
 ghost use Rattle.sc_instances.specs.Readings.{reading};
 ghost use Rattle.sc_instances.specs.declared.input.Input.{Input};
 ghost use Rattle.sc_instances.specs.declared.instantiation.Instances.{Instances};
-ghost use Rattle.sc_grounding.specs.GroundClauses.{AreGroundClauses, HaveFacts, first_gate};
+ghost use Rattle.sc_grounding.specs.GroundClauses.{AreGroundClauses, HaveFacts};
 ghost use Rattle.sc_grounding.specs.Says.{says};
 ghost use Rattle.sc_grounding.specs.InputFacts.{are_facts, atom_facts, input_facts};
 
@@ -67,21 +66,21 @@ pub fn inputs_are_facts()
 /// is so, there are such values.
 pub fn ground_clauses_are_readings()
     ensures sound { (g : Signature) (f : Formula) (terms : List GroundTerm) (cs : List Clause)
-        (nodes : List Node) (made : Instances) (facts : List Fact) (clauses : List (List Literal))
-        (a : Assignment) (values : ℕ → Bool) →
-        IsOver g [] f → AreInstancesOf g nodes f terms made → ArePlaced made.gates →
-        AreGroundClauses made facts nodes cs clauses →
-        HaveFacts made facts a values → IsTrue (list_all (meets_clause values) clauses) →
+        (nodes : List Node) (made : Instances) (facts : List Fact) (end : ℕ)
+        (clauses : List (List Literal)) (a : Assignment) (values : ℕ → Bool) →
+        IsOver g [] f → AreInstancesOf g nodes f terms made →
+        AreGroundClauses facts made nodes cs end clauses →
+        HaveFacts facts a values → IsTrue (list_all (meets_clause values) clauses) →
         IsTrue (list_all (is_met a) cs)
         × Reads g (is_there (table_for a)) (holds (table_for a)) terms 0 [] no_terms f }
     ensures complete { (g : Signature) (f : Formula) (terms : List GroundTerm) (cs : List Clause)
-        (nodes : List Node) (made : Instances) (facts : List Fact) (clauses : List (List Literal))
-        (a : Assignment) →
-        IsOver g [] f → AreInstancesOf g nodes f terms made → ArePlaced made.gates →
-        AreGroundClauses made facts nodes cs clauses →
+        (nodes : List Node) (made : Instances) (facts : List Fact) (end : ℕ)
+        (clauses : List (List Literal)) (a : Assignment) →
+        IsOver g [] f → AreInstancesOf g nodes f terms made →
+        AreGroundClauses facts made nodes cs end clauses →
         IsTrue (list_all (is_met a) cs) →
         Reads g (is_there (table_for a)) (holds (table_for a)) terms 0 [] no_terms f →
-        (values : ℕ → Bool) × HaveFacts made facts a values
+        (values : ℕ → Bool) × HaveFacts facts a values
         × IsTrue (list_all (meets_clause values) clauses) }
 {}
 
@@ -94,27 +93,27 @@ pub fn ground_clauses_are_readings()
 pub fn ground_clauses_are_complete()
     ensures found { (g : Signature) (f : Formula) (terms : List GroundTerm) (v : Vocabulary)
         (cs : List Clause) (texts : List (List ℕ)) (nodes : List Node) (made : Instances)
-        (facts : List Fact) (clauses : List (List Literal)) →
+        (facts : List Fact) (end : ℕ) (clauses : List (List Literal)) →
         IsOver g [] f → IsNormal f → IsVocabulary g f terms v →
         ((w : List ℕ) → Contains texts w → IsText w) →
-        AreInstancesOf g nodes f terms made → ArePlaced made.gates →
-        AreGroundClauses made facts nodes cs clauses →
+        AreInstancesOf g nodes f terms made →
+        AreGroundClauses facts made nodes cs end clauses →
         ((c : Clause) → Contains cs c →
         Contains (base_clauses g v ++ congruence_clauses g v) c) →
         IsSatisfiableOver g f (Contains terms) → (spare : ℕ → List ℕ) × (m : Model)
         × (values : ℕ → Bool) × IsLawful g texts spare m v
-        × HaveFacts made facts (assignment_of g texts spare m) values
+        × HaveFacts facts (assignment_of g texts spare m) values
         × IsTrue (list_all (meets_clause values) clauses) }
     ensures enough { (g : Signature) (f : Formula) (terms : List GroundTerm) (v : Vocabulary)
         (cs : List Clause) (texts : List (List ℕ)) (nodes : List Node) (made : Instances)
-        (facts : List Fact) (clauses : List (List Literal)) (spare : ℕ → List ℕ) (m : Model)
+        (facts : List Fact) (end : ℕ) (clauses : List (List Literal)) (spare : ℕ → List ℕ) (m : Model)
         (values : ℕ → Bool) →
         IsOver g [] f → IsNormal f → IsVocabulary g f terms v →
         ((w : List ℕ) → Contains texts w → IsText w) →
-        AreInstancesOf g nodes f terms made → ArePlaced made.gates →
-        AreGroundClauses made facts nodes cs clauses →
+        AreInstancesOf g nodes f terms made →
+        AreGroundClauses facts made nodes cs end clauses →
         ((c : Clause) → Contains (base_clauses g v) c → Contains cs c) →
-        IsLawful g texts spare m v → HaveFacts made facts (assignment_of g texts spare m) values →
+        IsLawful g texts spare m v → HaveFacts facts (assignment_of g texts spare m) values →
         IsTrue (list_all (meets_clause values) clauses) →
         IsTrue (list_all (is_met (assignment_of g texts spare m)) (congruence_clauses g v)) →
         IsTrue (list_all (is_met (assignment_of g texts spare m))
@@ -123,21 +122,10 @@ pub fn ground_clauses_are_complete()
         (holds (table_for (assignment_of g texts spare m))) terms 0 [] no_terms f }
 {}
 
-/// Instances and a list of clauses on facts have a list of facts, and a list of clauses.
-pub fn ground_clauses_exist()
-    ensures { (cs : List Clause) (nodes : List Node) (made : Instances) →
-        (facts : List Fact) × (clauses : List (List Literal))
-        × AreGroundClauses made facts nodes cs clauses }
-{}
-
-/// The variables of the clauses are those of inputs, facts and gates, so others can be added behind
-/// them.
+/// The variables of the clauses are below their end, so others can be added from there on.
 pub fn ground_clauses_are_below()
-    ensures { (g : Signature) (f : Formula) (terms : List GroundTerm) (cs : List Clause)
-        (nodes : List Node) (made : Instances) (facts : List Fact) (clauses : List (List Literal))
-        (clause : List Literal) (l : Literal) →
-        AreInstancesOf g nodes f terms made → ArePlaced made.gates →
-        AreGroundClauses made facts nodes cs clauses →
-        Contains clauses clause → Contains clause l →
-        l.var < first_gate made facts + length made.gates }
+    ensures { (cs : List Clause) (nodes : List Node) (made : Instances) (facts : List Fact)
+        (end : ℕ) (clauses : List (List Literal)) (clause : List Literal) (l : Literal) →
+        AreGroundClauses facts made nodes cs end clauses →
+        Contains clauses clause → Contains clause l → l.var < end }
 {}

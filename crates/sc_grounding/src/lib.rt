@@ -7,5 +7,5 @@ mod laws;
 
 pub use laws::{
     atoms_agree, ground_clauses_are_below, ground_clauses_are_complete,
-    ground_clauses_are_readings, ground_clauses_exist, inputs_are_facts, readings_agree,
+    ground_clauses_are_readings, inputs_are_facts, readings_agree,
 };

@@ -2,9 +2,9 @@ use Rattle.sc_grounding.proofs.Grounded.{grounded, from_grounded}
 use Rattle.sc_grounding.proofs.laws.ground_clauses_are_complete.Goals as goal
 
 pub returns-clause-found : goal.returns-clause-found
-returns-clause-found c = λ g f terms v cs texts nodes made facts clauses over normal words are instances placed listed some s.
-    grounded g f terms v cs texts nodes made facts clauses over normal words are instances placed listed some s
+returns-clause-found c = λ g f terms v cs texts nodes made facts end clauses over normal words are instances listed some s.
+    grounded g f terms v cs texts nodes made facts end clauses over normal words are instances listed some s
 
 pub returns-clause-enough : goal.returns-clause-enough
-returns-clause-enough c = λ g f terms v cs texts nodes made facts clauses spare m values over normal words are instances placed listed all law have meet alike.
-    from_grounded g f terms v cs texts nodes made facts clauses over normal words are instances placed listed all spare m values law have meet alike
+returns-clause-enough c = λ g f terms v cs texts nodes made facts end clauses spare m values over normal words are instances listed all law have meet alike.
+    from_grounded g f terms v cs texts nodes made facts end clauses over normal words are instances listed all spare m values law have meet alike
