@@ -1,7 +1,6 @@
 pub mod Adding
-pub mod Alike
 pub mod AllLaws
 pub mod CongruenceLaws
+pub mod GroundLaws
 pub mod NumberLaws
 pub mod TermLaws
-pub mod TieLaws

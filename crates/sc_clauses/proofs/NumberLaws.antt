@@ -1,12 +1,12 @@
 -- Facts as variables, one after another.
-use Rattle.std.proofs.Common.{◌≡◌, ℕ, zero, suc, ◌+◌, ◌<◌, ◌≤◌, ◌∙◌, sym, refl, ap, subst, List, [], ◌∷◌, ◌++◌, Some, length, get_or, take, append_assoc, append-nil}
+use Rattle.std.proofs.Common.{◌≡◌, ℕ, zero, suc, ◌+◌, ◌<◌, ◌≤◌, ◌∙◌, sym, ap, subst, List, [], ◌∷◌, ◌++◌, Some, length, get_or, take, append_assoc, append-nil}
 use Rattle.std.specs.Prelude.{slice_get}
 use Rattle.std.proofs.lemmas.List.{take_all, take_more}
 use Rattle.sc_gates.specs.declared.gate.Literal.{Literal}
 use Rattle.sc_clauses.specs.declared.facts.FactNode.{FactNode}
 use Rattle.sc_clauses.specs.declared.facts.FactLiteral.{FactLiteral}
 use Rattle.sc_clauses.specs.declared.numbering.Numbering.{Numbering}
-use Rattle.sc_clauses.specs.Numbers.{IsNumber, IsLiteralFor, AreLiterals, KeepsFacts, Zips}
+use Rattle.sc_clauses.specs.Numbers.{IsNumber, AreNumbers, IsLiteralFor, AreLiterals, KeepsFacts, Zips}
 
 module _ {A B : Type 0} where
   zips_push : (R : A → B → Type 0) (xs : List A) (ys : List B) (x : A) (y : B) → Zips R xs ys → R x y → Zips R (xs ++ x ∷ []) (ys ++ y ∷ [])
@@ -36,11 +36,10 @@ module _ {A B : Type 0} where
   zips_all R xs ys k past h = let P : List B → Type 0 = λ ys. Zips R xs ys in subst P (take_all k ys past) h
 
 pub kept_none : (n : Numbering) → KeepsFacts n n
-kept_none n = record { inputs = refl; more = []; whole = sym (append-nil n.facts.keys) }
+kept_none n = record { more = []; whole = sym (append-nil n.facts.keys) }
 
 pub kept_both : (a b c : Numbering) → KeepsFacts a b → KeepsFacts b c → KeepsFacts a c
 kept_both a b c p q = record {
-  inputs = q.inputs ∙ p.inputs;
   more = p.more ++ q.more;
   whole = q.whole ∙ (ap (λ xs. xs ++ q.more) p.whole ∙ append_assoc a.facts.keys p.more q.more);
 }
@@ -50,13 +49,16 @@ slice_get_front [] ys k x e = cc
 slice_get_front (z ∷ xs) ys zero x e = e
 slice_get_front (z ∷ xs) ys (suc k) x e = slice_get_front xs ys k x e
 
-pub number_kept : (old new : Numbering) → KeepsFacts old new → (x : ℕ) (p : FactNode) → IsNumber old.inputs old.facts.keys x p → IsNumber new.inputs new.facts.keys x p
-number_kept old new h x p (k, at, e) =
-    let P : List FactNode → Type 0 = λ keys. slice_get keys k ≡ Some p in
-    (k, subst P (sym h.whole) (slice_get_front old.facts.keys h.more k p at), e ∙ ap (λ n. n + k) (sym h.inputs))
+pub number_kept : (old new : Numbering) → KeepsFacts old new → (x : ℕ) (p : FactNode) → IsNumber old.facts.keys x p → IsNumber new.facts.keys x p
+number_kept old new h x p at =
+    let P : List FactNode → Type 0 = λ keys. slice_get keys x ≡ Some p in
+    subst P (sym h.whole) (slice_get_front old.facts.keys h.more x p at)
 
-pub literal_kept : (old new : Numbering) → KeepsFacts old new → (l : Literal) (p : FactLiteral) → IsLiteralFor old.inputs old.facts.keys l p → IsLiteralFor new.inputs new.facts.keys l p
+pub numbers_kept : (old new : Numbering) → KeepsFacts old new → (xs : List ℕ) (ps : List FactNode) → AreNumbers old.facts.keys xs ps → AreNumbers new.facts.keys xs ps
+numbers_kept old new h xs ps are = zips_as (IsNumber old.facts.keys) (IsNumber new.facts.keys) (number_kept old new h) xs ps are
+
+pub literal_kept : (old new : Numbering) → KeepsFacts old new → (l : Literal) (p : FactLiteral) → IsLiteralFor old.facts.keys l p → IsLiteralFor new.facts.keys l p
 literal_kept old new h l p (number, sign) = (number_kept old new h l.var p.fact number, sign)
 
-pub literals_kept : (old new : Numbering) → KeepsFacts old new → (ls : List Literal) (ps : List FactLiteral) → AreLiterals old.inputs old.facts.keys ls ps → AreLiterals new.inputs new.facts.keys ls ps
-literals_kept old new h ls ps are = zips_as (IsLiteralFor old.inputs old.facts.keys) (IsLiteralFor new.inputs new.facts.keys) (literal_kept old new h) ls ps are
+pub literals_kept : (old new : Numbering) → KeepsFacts old new → (ls : List Literal) (ps : List FactLiteral) → AreLiterals old.facts.keys ls ps → AreLiterals new.facts.keys ls ps
+literals_kept old new h ls ps are = zips_as (IsLiteralFor old.facts.keys) (IsLiteralFor new.facts.keys) (literal_kept old new h) ls ps are

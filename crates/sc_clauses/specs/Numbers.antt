@@ -1,5 +1,5 @@
 -- Facts as variables.
-use Rattle.std.specs.Prelude.{◌≡◌, ℕ, ◌+◌, List, [], ◌∷◌, ◌++◌, Some, slice_get}
+use Rattle.std.specs.Prelude.{◌≡◌, ℕ, List, [], ◌∷◌, ◌++◌, Some, slice_get}
 use Rattle.sc_gates.specs.declared.gate.Literal.{Literal}
 use Rattle.sc_clauses.specs.declared.facts.FactNode.{FactNode}
 use Rattle.sc_clauses.specs.declared.facts.FactLiteral.{FactLiteral}
@@ -12,10 +12,10 @@ Zips R [] (y ∷ ys) = ⊥
 Zips R (x ∷ xs) [] = ⊥
 Zips R (x ∷ xs) (y ∷ ys) = R x y × Zips R xs ys
 
-module _ (inputs : ℕ) (facts : List FactNode) where
-  -- the variable is the fact's, behind those of inputs
+module _ (facts : List FactNode) where
+  -- the variable is the fact's place
   abbrev pub IsNumber : ℕ → FactNode → Type 0
-  IsNumber x fact = (k : ℕ) × (slice_get facts k ≡ Some fact) × (x ≡ inputs + k)
+  IsNumber x fact = slice_get facts x ≡ Some fact
 
   abbrev pub AreNumbers : List ℕ → List FactNode → Type 0
   AreNumbers xs ps = Zips IsNumber xs ps
@@ -28,6 +28,5 @@ module _ (inputs : ℕ) (facts : List FactNode) where
 
 -- all facts are there as before, under their numbers
 pub record KeepsFacts (old new : Numbering) : Type 0 where
-  pub inputs : new.inputs ≡ old.inputs
   pub more : List FactNode
   pub whole : new.facts.keys ≡ old.facts.keys ++ more

@@ -7,7 +7,6 @@
 //! - `congruences`: all clauses of congruence.
 //! - `input_facts`: the facts that inputs stand for.
 //! - `numbering`: facts as variables.
-//! - `ties`: the clauses that tie inputs to their facts.
 //! - `ground`: all clauses.
 #![tactic(auto)]
 
@@ -19,7 +18,6 @@ mod ground;
 mod input_facts;
 mod numbering;
 mod terms;
-mod ties;
 
 pub use base::base_clauses;
 pub use congruences::congruence_clauses;

@@ -1,6 +1,6 @@
 //! Facts as variables.
 
-ghost use Rattle.std.specs.Prelude.{IfOk, OnOk};
+ghost use Rattle.std.specs.Prelude.{◌≡◌, IfOk, OnOk, length};
 ghost use Rattle.sc_clauses.specs.Numbers.{AreLiterals, AreNumbers, IsNumber, KeepsFacts, Zips};
 
 use crate::facts::{FactLiteral, FactNode};
@@ -8,11 +8,9 @@ use indexmap::IndexSet;
 use sc_gates::Literal;
 use std::alloc::{AllocError, Global};
 
-/// Facts with variables, which are numbered behind those of inputs.
+/// Facts, which are the first variables.
 #[derive(Drop)]
 pub(crate) struct Numbering {
-    /// How many inputs there are.
-    pub(crate) inputs: u32,
     pub(crate) facts: IndexSet<FactNode>,
 }
 
@@ -20,16 +18,24 @@ impl Numbering {
     /// The variable of a fact. Four thousand million variables count as memory that is not there.
     fn variable(&mut self, fact: FactNode) -> Result<u32, AllocError>
         ensures kept { OnOk result (KeepsFacts self.old self.new) }
-        ensures is { IfOk result (λ x. IsNumber self.new.inputs self.new.facts.keys x fact) }
+        ensures is { IfOk result (λ x. IsNumber self.new.facts.keys x fact) }
     {
         let (place, _) = self.facts.insert_full(fact)?;
         if place >= u32::MAX as usize {
             return Err(AllocError);
         }
-        match self.inputs.checked_add(place as u32) {
-            Some(variable) => Ok(variable),
-            None => Err(AllocError),
+        Ok(place as u32)
+    }
+
+    /// How many facts there are. Four thousand million count as memory that is not there.
+    pub(crate) fn count(&self) -> Result<u32, AllocError>
+        ensures { IfOk result (λ count. count ≡ length self.now.facts.keys) }
+    {
+        let count = self.facts.len();
+        if count > u32::MAX as usize {
+            return Err(AllocError);
         }
+        Ok(count as u32)
     }
 
     /// The variables of some facts.
@@ -39,8 +45,7 @@ impl Numbering {
         facts: &[FactNode],
     ) -> Result<Vec<u32>, AllocError>
         ensures kept { OnOk result (KeepsFacts self.old self.new) }
-        ensures are { IfOk result (λ xs. AreNumbers self.new.inputs self.new.facts.keys xs.items
-            facts.now) }
+        ensures are { IfOk result (λ xs. AreNumbers self.new.facts.keys xs.items facts.now) }
     {
         let mut variables = Vec::new(alloc);
         for fact in facts {
@@ -53,8 +58,8 @@ impl Numbering {
     /// A clause on variables.
     fn clause(&mut self, alloc: Global, facts: &[FactLiteral]) -> Result<Vec<Literal>, AllocError>
         ensures kept { OnOk result (KeepsFacts self.old self.new) }
-        ensures are { IfOk result (λ clause. AreLiterals self.new.inputs self.new.facts.keys
-            clause.items facts.now) }
+        ensures are { IfOk result (λ clause. AreLiterals self.new.facts.keys clause.items
+            facts.now) }
     {
         let mut literals = Vec::new(alloc);
         for l in facts {
@@ -71,8 +76,8 @@ impl Numbering {
         facts: &[Vec<FactLiteral>],
     ) -> Result<Vec<Vec<Literal>>, AllocError>
         ensures kept { OnOk result (KeepsFacts self.old self.new) }
-        ensures are { IfOk result (λ clauses. Zips (λ c p. AreLiterals self.new.inputs
-            self.new.facts.keys c.items p.items) clauses.items facts.now) }
+        ensures are { IfOk result (λ clauses. Zips (λ c p. AreLiterals self.new.facts.keys
+            c.items p.items) clauses.items facts.now) }
     {
         let mut clauses = Vec::new(alloc);
         for clause in facts {

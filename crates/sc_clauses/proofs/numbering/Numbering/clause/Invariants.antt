@@ -3,4 +3,4 @@ use Rattle.sc_clauses.specs.Numbers.{IsLiteralFor, KeepsFacts, Zips}
 use Rattle.sc_clauses.proofs.numbering.Numbering.clause.Given as goal
 
 abbrev pub invariant-loop-l : goal.invariant-loop-l
-invariant-loop-l l = KeepsFacts l.initial.self l.self × Zips (IsLiteralFor l.self.inputs l.self.facts.keys) l.literals.items (take l.l-index l.facts)
+invariant-loop-l l = KeepsFacts l.initial.self l.self × Zips (IsLiteralFor l.self.facts.keys) l.literals.items (take l.l-index l.facts)

@@ -9,9 +9,9 @@ pub loop-clause-preserved : goal.loop-clause-preserved
 loop-clause-preserved c =
     let old = c.loop-clause.self in
     let new = c.clause.new.self in
-    let R : Vec Literal Global → Vec FactLiteral Global → Type 0 = λ x p. AreLiterals old.inputs old.facts.keys x.items p.items in
-    let S : Vec Literal Global → Vec FactLiteral Global → Type 0 = λ x p. AreLiterals new.inputs new.facts.keys x.items p.items in
-    let Q : List FactLiteral → Type 0 = λ ls. AreLiterals new.inputs new.facts.keys c.in_ok-literals.literals.items ls in
+    let R : Vec Literal Global → Vec FactLiteral Global → Type 0 = λ x p. AreLiterals old.facts.keys x.items p.items in
+    let S : Vec Literal Global → Vec FactLiteral Global → Type 0 = λ x p. AreLiterals new.facts.keys x.items p.items in
+    let Q : List FactLiteral → Type 0 = λ ls. AreLiterals new.facts.keys c.in_ok-literals.literals.items ls in
     let P : Vec FactLiteral Global → Type 0 = λ p. S c.in_ok-literals.literals p in (
       kept_both c.args.self.now old new c.loop-clause.invariant.0 c.in_ok-literals.ensures.kept,
       zips_next R S (λ x p h. literals_kept old new c.in_ok-literals.ensures.kept x.items p.items h) c.loop-clause.clauses.items c.push.new.self.items c.args.facts.now c.loop-clause.clause-index c.clause-item.result
