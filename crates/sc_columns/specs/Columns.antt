@@ -1,5 +1,5 @@
 -- What was found of numbered terms, pairs and sorts, and the assignment that it stands for.
-use Rattle.std.specs.Prelude.{◌≡◌, ℕ, ◌+◌, ◌<◌, Bool, false, ◌&&◌, List, Option, None, Some, cond, map, length, pos, unwrap_or, option_and_then, slice_get, int_lt, position, ◌==◌}
+use Rattle.std.specs.Prelude.{◌≡◌, ℕ, ◌<◌, Bool, false, ◌&&◌, List, Option, None, Some, cond, map, length, pos, unwrap_or, option_and_then, slice_get, int_lt, position, ◌==◌}
 use Rattle.std.specs.List.{range_with_len}
 use Rattle.sc_formula.specs.declared.node.Node.{Node}
 use Rattle.sc_formula.specs.declared.node.Node.TheVariants as node
@@ -113,10 +113,10 @@ IsFactOf nodes terms (Raised id) = IsOne terms id
 IsFactOf nodes terms (Related p) = IsOne terms p.holder × IsOne terms p.member
 IsFactOf nodes terms (Empty sort) = Unit {0}
 
--- the facts are so where their values are true, which begin behind the first ones
-abbrev pub AgreeWith : List Node → List TermNode → List PairNode → Columns → List FactNode → ℕ → List Bool → Type 0
-AgreeWith nodes terms pairs c facts first values =
-    (k : ℕ) (p : FactNode) → slice_get facts k ≡ Some p → unwrap_or (slice_get values (first + k)) false ≡ is_fact (assignment_by terms pairs c) (fact_at nodes terms p)
+-- the facts are so where their values are true
+abbrev pub AgreeWith : List Node → List TermNode → List PairNode → Columns → List FactNode → List Bool → Type 0
+AgreeWith nodes terms pairs c facts values =
+    (k : ℕ) (p : FactNode) → slice_get facts k ≡ Some p → unwrap_or (slice_get values k) false ≡ is_fact (assignment_by terms pairs c) (fact_at nodes terms p)
 
 -- what was found is what the columns tell
 abbrev pub IsFoundBy : Signature → List TermNode → List PairNode → Columns → Found → Type 0

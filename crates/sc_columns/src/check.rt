@@ -1,6 +1,6 @@
 //! Whether facts are so.
 
-ghost use Rattle.std.specs.Prelude.{◌≡◌, ◌+◌, ℕ, Some, false, position, IfOk, OnOk};
+ghost use Rattle.std.specs.Prelude.{◌≡◌, ℕ, Some, false, position, IfOk, OnOk};
 ghost use Rattle.std.specs.Prelude.{slice_get, unwrap_or};
 ghost use Rattle.sc_clauses.specs.declared.facts.FactNode.{FactNode as AnyFact};
 ghost use Rattle.sc_columns.specs.Columns.{IsFactOf, IsSo, at_or, fact_by, is_same_pair};
@@ -87,14 +87,11 @@ fn check_fact(source: Source<'_>, fact: FactNode, value: bool) -> Result<(), All
     if so == value { Ok(()) } else { Err(AllocError) }
 }
 
-/// The value of the fact at a place, where those of facts begin behind the first ones.
-fn value_of(values: &[bool], first: u32, k: usize) -> Result<bool, AllocError>
-    ensures { IfOk result (λ value. value ≡ unwrap_or (slice_get values.now (first + k)) false) }
+/// The value of the fact at a place.
+fn value_of(values: &[bool], k: usize) -> Result<bool, AllocError>
+    ensures { IfOk result (λ value. value ≡ unwrap_or (slice_get values.now k) false) }
 {
-    let Some(place) = (first as usize).checked_add(k) else {
-        return Err(AllocError);
-    };
-    match values.get(place) {
+    match values.get(k) {
         Some(value) => Ok(*value),
         None => Err(AllocError),
     }
@@ -105,34 +102,32 @@ fn check_at(
     source: Source<'_>,
     facts: &[FactNode],
     k: usize,
-    first: u32,
     values: &[bool],
 ) -> Result<(), AllocError>
     ensures { OnOk result ((p : AnyFact) → slice_get facts.now k ≡ Some p → IsSo
         source.entry.arena.now source.entry.terms.now source.entry.pairs.now
-        source.entry.columns.now p (unwrap_or (slice_get values.now (first + k)) false)) }
+        source.entry.columns.now p (unwrap_or (slice_get values.now k) false)) }
 {
-    let value = value_of(values, first, k)?;
+    let value = value_of(values, k)?;
     match facts.get(k) {
         Some(fact) => check_fact(source, *fact, value),
         None => Err(AllocError),
     }
 }
 
-/// Checks that facts are so exactly where their values are true, which begin behind the first ones.
-/// Where they are not, memory counts as not there.
+/// Checks that facts are so exactly where their values are true. Where they are not, memory counts
+/// as not there.
 pub fn check_facts(
     source: Source<'_>,
     facts: &[FactNode],
-    first: u32,
     values: &[bool],
 ) -> Result<(), AllocError>
     ensures { OnOk result ((k : ℕ) (p : AnyFact) → slice_get facts.now k ≡ Some p → IsSo
         source.entry.arena.now source.entry.terms.now source.entry.pairs.now
-        source.entry.columns.now p (unwrap_or (slice_get values.now (first + k)) false)) }
+        source.entry.columns.now p (unwrap_or (slice_get values.now k) false)) }
 {
     for k in 0..facts.len() {
-        check_at(source, facts, k, first, values)?;
+        check_at(source, facts, k, values)?;
     }
     Ok(())
 }
