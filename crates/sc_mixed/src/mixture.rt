@@ -6,6 +6,7 @@ ghost use Rattle.std.specs.List.{range_with_len};
 ghost use Rattle.sc_solver.specs.Assignment.{value_at};
 ghost use Rattle.sc_solver.specs.SolverView.{IsLawfulFor};
 ghost use Rattle.sc_solver.specs.Clauses.{IsWithin};
+ghost use Rattle.sc_solver.specs.declared.limits.TheConstants.{TOO_MANY};
 ghost use Rattle.sc_mixed.specs.Mixed.{AreTaken, AreValues, IsMixed, IsMixture};
 
 use sc_order::{Diff, Order};
@@ -128,7 +129,7 @@ fn procedures(
 ///
 /// The terms are numbers below `terms`, of which those in `fixed` are pairwise different, and those
 /// of differences numbers below `numbers`, of which 0 is zero. `atoms` has one entry for each of
-/// the variables, fewer than 2,000,000,000; so many clauses are too many.
+/// the variables. Of these and of the clauses there are fewer than `TOO_MANY` of sc_solver.
 pub fn search_mixed(
     alloc: Global,
     vars: u32,
@@ -139,8 +140,8 @@ pub fn search_mixed(
     fixed: &[u32],
     numbers: usize,
 ) -> Result<Option<Mixture>, AllocError>
-    requires few_vars { vars < 2000000000 }
-    requires few_clauses { length clauses.list < 2000000000 }
+    requires few_vars { vars < TOO_MANY }
+    requires few_clauses { length clauses.list < TOO_MANY }
     requires few_terms { terms < 2 ^ 32 }
     requires few_numbers { numbers < 2 ^ 32 }
     requires some { 0 < numbers }
