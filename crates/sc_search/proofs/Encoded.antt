@@ -1,5 +1,5 @@
 -- Where a lawful model makes clauses on facts true, their encoding has a lawful assignment.
-use Rattle.std.proofs.Common.{◌≡◌, ℕ, zero, suc, ◌+◌, ◌<◌, Bool, true, false, ◌&&◌, ◌||◌, not, ◌⊎◌, inl, inr, refl, sym, ◌∙◌, List, [], ◌∷◌, ◌++◌, Some, None, length, get_or, map, ap, subst, arith, cond, Contains, slice_get, ℤ, ◌+ℤ◌, length-append, append_assoc, IsTrue, All}
+use Rattle.std.proofs.Common.{◌≡◌, ℕ, zero, suc, ◌+◌, ◌<◌, Bool, true, false, ◌&&◌, ◌||◌, not, ◌⊎◌, inl, inr, refl, sym, ◌∙◌, List, [], ◌∷◌, ◌++◌, Some, None, length, get_or, map, ap, subst, arith, cond, Contains, slice_get, ℤ, ◌+ℤ◌, length-append, IsTrue, All}
 use Rattle.std.specs.Prelude.{int_lt, replicate}
 use Rattle.std.specs.List.{range_with_len, list_all}
 use Rattle.std.specs.Ordering.{int_eq}
@@ -161,7 +161,7 @@ module _ (g : Signature) (nodes : List Node) (terms : List TermNode) (w : Words)
   own_long (p ∷ ps) [] h = absurd h
   own_long (p ∷ ps) (o ∷ ls) h = ap suc (own_long ps ls h.1)
 
-  module _ (first vars : ℕ) (facts halves : List FactNode) (values : ℕ → Bool) (have : HaveValues nodes terms facts first (assignment_of g texts spare m) values) where
+  module _ (vars : ℕ) (facts halves : List FactNode) (values : ℕ → Bool) (have : HaveValues nodes terms facts (assignment_of g texts spare m) values) where
     abbrev pub assignment : List Bool
     assignment = map values (range_with_len 0 vars) ++ map own halves
 
@@ -204,10 +204,10 @@ module _ (g : Signature) (nodes : List Node) (terms : List TermNode) (w : Words)
         let later = clause_same c (λ k there. h k (Contains-tail l c k there)) in cc
 
     -- those that link an equality and its halves are met
-    pub link_met : (x e : ℕ) → first + length facts + 0 < vars + 1 → IsHalved g nodes terms w texts first vars facts halves x e → (c : List PLit) → Contains (link_clauses x e) c → meets_clause assignment c ≡ true
+    pub link_met : (x e : ℕ) → length facts < vars + 1 → IsHalved g nodes terms w texts vars facts halves x e → (c : List PLit) → Contains (link_clauses x e) c → meets_clause assignment c ≡ true
     link_met x e room h c there =
         let one : value_at assignment x ≡ own (Same h.v h.u) =
-        ap (value_at assignment) h.variable ∙ (value_below (first + h.place) (omega (arith, slice_within facts h.place (Same h.v h.u) h.same_there)) ∙ have h.place (Same h.v h.u) h.same_there) in
+        value_below x (omega (arith, slice_within facts x (Same h.v h.u) h.same_there)) ∙ have x (Same h.v h.u) h.same_there in
         let two : value_at assignment e ≡ own (Below h.v h.u) = ap (value_at assignment) h.halves_at ∙ value_behind h.half (Below h.v h.u) h.below_there in
         let moved : vars + h.half + 1 ≡ vars + (h.half + 1) = omega arith in
         let three : value_at assignment (e + 1) ≡ own (Below h.u h.v) =
@@ -242,39 +242,30 @@ module _ (g : Signature) (nodes : List Node) (terms : List TermNode) (w : Words)
         let later = own_values (i + 1) ps (λ k q e. let next : i + 1 + k ≡ i + suc k = omega arith in ap values next ∙ h (suc k) q e) in cc
 
     -- and the literals of facts have a model
-    pub literals_met : (atoms : List Atom) → AreAtomsFor g nodes terms w texts first vars facts halves atoms → All (λ l. IsTrue (is_met l)) (theory_literals assignment atoms)
+    pub literals_met : (atoms : List Atom) → AreAtomsFor g nodes terms w texts vars facts halves atoms → All (λ l. IsTrue (is_met l)) (theory_literals assignment atoms)
     literals_met atoms h =
-        let left = map values (range_with_len 0 first) in
         let mid = map own facts in
-        let right = map values (range_with_len (0 + (first + length facts)) h.gap) in
-        let halved : map values (range_with_len 0 vars) ≡ left ++ (mid ++ right) =
+        let right = map values (range_with_len (0 + length facts) h.gap) in
+        let halved : map values (range_with_len 0 vars) ≡ mid ++ right =
         ap (λ n. map values (range_with_len 0 n)) (sym h.to_gap)
-        ∙ (ap (map values) (range_split 0 (first + length facts) h.gap ∙ ap (λ ks. ks ++ range_with_len (0 + (first + length facts)) h.gap) (range_split 0 first (length facts)))
-        ∙ (map-append values (range_with_len 0 first ++ range_with_len (0 + first) (length facts)) (range_with_len (0 + (first + length facts)) h.gap)
-        ∙ (ap (λ bs. bs ++ right) (map-append values (range_with_len 0 first) (range_with_len (0 + first) (length facts))
-        ∙ ap (λ bs. left ++ bs) (ap (λ n. map values (range_with_len n (length facts))) (zero_plus first) ∙ own_values first facts have))
-        ∙ append_assoc left mid right))) in
+        ∙ (ap (map values) (range_split 0 (length facts) h.gap)
+        ∙ (map-append values (range_with_len 0 (length facts)) (range_with_len (0 + length facts) h.gap)
+        ∙ ap (λ bs. bs ++ right) (own_values 0 facts (λ k p e. let none : 0 + k ≡ k = omega arith in ap values none ∙ have k p e)))) in
         let own_are = own_long facts h.own h.own_are in
-        let none_first : List Atom = replicate first None in
         let none_gap : List Atom = replicate h.gap None in
-        let first_long : length left ≡ length none_first = length-map-range_with_len values 0 first ∙ sym (length-replicate None first) in
-        let right_long : length right ≡ length none_gap = length-map-range_with_len values (0 + (first + length facts)) h.gap ∙ sym (length-replicate None h.gap) in
+        let right_long : length right ≡ length none_gap = length-map-range_with_len values (0 + length facts) h.gap ∙ sym (length-replicate None h.gap) in
         let mid_long : length mid ≡ length h.own = length-map own facts ∙ own_are in
-        let inner_met = met_append mid right h.own none_gap mid_long (own_met facts h.own h.own_are) (none_met right h.gap) in
-        let front_met = met_append left (mid ++ right) none_first (h.own ++ none_gap) first_long (none_met left first) inner_met in
-        let front_long : length (left ++ (mid ++ right)) ≡ length (none_first ++ (h.own ++ none_gap)) =
-        omega (arith, length-append left (mid ++ right), length-append mid right, length-append none_first (h.own ++ none_gap), length-append h.own none_gap, first_long, right_long, mid_long) in
-        let all_met = met_append (left ++ (mid ++ right)) (map own halves) (none_first ++ (h.own ++ none_gap)) h.others front_long front_met (own_met halves h.others h.others_are) in
+        let front_met = met_append mid right h.own none_gap mid_long (own_met facts h.own h.own_are) (none_met right h.gap) in
+        let front_long : length (mid ++ right) ≡ length (h.own ++ none_gap) =
+        omega (arith, length-append mid right, length-append h.own none_gap, right_long, mid_long) in
+        let all_met = met_append (mid ++ right) (map own halves) (h.own ++ none_gap) h.others front_long front_met (own_met halves h.others h.others_are) in
         let P : List Bool → Type 0 = λ bs. AreMet (bs ++ map own halves) atoms in
-        let Q : List Atom → Type 0 = λ ls. AreMet ((left ++ (mid ++ right)) ++ map own halves) ls in
+        let Q : List Atom → Type 0 = λ ls. AreMet ((mid ++ right) ++ map own halves) ls in
         met_all assignment atoms (subst P (sym halved) (subst Q (sym h.whole) all_met))
-      where
-        zero_plus : (n : ℕ) → 0 + n ≡ n
-        zero_plus n = omega arith
 
     -- so there is a lawful assignment
-    pub mixed : (fixed : List ℕ) (clauses : List (List Literal)) (links : List (List PLit)) (atoms : List Atom) → AreAtomsFor g nodes terms w texts first vars facts halves atoms
-        → AreLinked g nodes terms w texts first vars facts halves links → IsTrue (list_all (gate_meets_clause values) clauses)
+    pub mixed : (fixed : List ℕ) (clauses : List (List Literal)) (links : List (List PLit)) (atoms : List Atom) → AreAtomsFor g nodes terms w texts vars facts halves atoms
+        → AreLinked g nodes terms w texts vars facts halves links → IsTrue (list_all (gate_meets_clause values) clauses)
         → ((c : List Literal) (l : Literal) → Contains clauses c → Contains c l → l.var < vars)
         → IsTrue (is_classes (length terms + length texts) fixed C)
         → IsMixed (length terms + length texts) fixed (length terms + 1) (vars + length halves) (map (map plit_of) clauses ++ links) atoms assignment

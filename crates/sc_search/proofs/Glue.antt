@@ -1,5 +1,5 @@
 -- What the search finds, as a table.
-use Rattle.std.proofs.Common.{Vec, Global, All, IfSome, Option, ◌≢◌, inl, inr, ◌≡◌, ℕ, zero, suc, ◌+◌, Bool, true, false, refl, sym, ◌∙◌, List, [], ◌∷◌, ◌++◌, Some, length, map, ap, subst, Contains, slice_get}
+use Rattle.std.proofs.Common.{Vec, Global, All, IfSome, Option, ◌≢◌, inl, inr, ◌≡◌, ℕ, zero, suc, Bool, true, false, refl, sym, ◌∙◌, List, [], ◌∷◌, ◌++◌, Some, map, ap, subst, Contains, slice_get}
 use Rattle.std.specs.Prelude.{unwrap_or}
 use Rattle.std.proofs.lemmas.List.Elements.{Contains-append_cases, Contains-append_left, Contains-append_right}
 use Rattle.std.proofs.lemmas.Option.{slice_get-get_or}
@@ -10,7 +10,6 @@ use Rattle.sc_formula.specs.Over.{IsOver}
 use Rattle.sc_formula.specs.Trees.{Formula}
 use Rattle.sc_formula.specs.declared.node.Node.{Node}
 use Rattle.sc_formula.specs.declared.structure.Signature.{Signature}
-use Rattle.sc_gates.specs.Gates.{ArePlaced as AreGatesPlaced}
 use Rattle.sc_gates.specs.Clauses.{meets_clause}
 use Rattle.sc_gates.specs.declared.gate.Literal.{Literal}
 use Rattle.sc_terms.specs.GroundTerms.{GroundTerm}
@@ -73,24 +72,23 @@ typed_both g terms c (x ∷ xs) ys h k = by (typed_both g terms c xs ys (λ j id
     by rest zero id e = h 0 id e
     by rest (suc i) id e = rest i id e
 
-module _ (g : Signature) (nodes : List Node) (s : Spoken) (ground : GroundClauses) (gr : IsGroundFor g nodes s ground) (first : ℕ) (begins : first ≡ length s.made.inputs) (m : Mixture)
+module _ (g : Signature) (nodes : List Node) (s : Spoken) (ground : GroundClauses) (gr : IsGroundFor g nodes s ground) (m : Mixture)
     (found : Found) (formed : AreNodesPlaced nodes) (placed : ArePlaced s.made.terms) (once : AreOnce s.made.terms) (words : IsWords s.made.terms s.words) where
   -- the variables of facts have the values of the assignment of columns
-  pub facts_have : (has : HasColumns g nodes s.made.terms s.words ground.facts.items first m.values.items found)
-      → HaveFacts s.made (map (fact_at nodes s.made.terms) ground.facts.items) (assignment_by s.made.terms s.words.pairs.items has.columns) (λ x. unwrap_or (slice_get m.values.items x) false)
+  pub facts_have : (has : HasColumns g nodes s.made.terms s.words ground.facts.items m.values.items found)
+      → HaveFacts (map (fact_at nodes s.made.terms) ground.facts.items) (assignment_by s.made.terms s.words.pairs.items has.columns) (λ x. unwrap_or (slice_get m.values.items x) false)
   facts_have has k q e =
       let terms = s.made.terms in
       let values : ℕ → Bool = λ x. unwrap_or (slice_get m.values.items x) false in
       let (p, there, same) = unmapped (fact_at nodes terms) ground.facts.items k q e in
-      ap (λ n. values (n + k)) (sym begins)
-      ∙ (so_same terms placed once nodes formed s.words.pairs.items words.pairs has.columns p (values (first + k)) (has.so k p there)
-      ∙ ap (is_fact (assignment_by terms s.words.pairs.items has.columns)) same)
+      so_same terms placed once nodes formed s.words.pairs.items words.pairs has.columns p (values k) (has.so k p there)
+      ∙ ap (is_fact (assignment_by terms s.words.pairs.items has.columns)) same
 
 -- where values meet the clauses, those of congruence that what was found breaks were not listed
-module _ (g : Signature) (nodes : List Node) (s : Spoken) (ground : GroundClauses) (gr : IsGroundFor g nodes s ground) (first : ℕ) (begins : first ≡ length s.made.inputs) (m : Mixture)
+module _ (g : Signature) (nodes : List Node) (s : Spoken) (ground : GroundClauses) (gr : IsGroundFor g nodes s ground) (m : Mixture)
     (formed : AreNodesPlaced nodes) (placed : ArePlaced s.made.terms) (once : AreOnce s.made.terms) (words : IsWords s.made.terms s.words) where
   broken_new : (more : List (List FactLiteral)) → AreSolved (map (λ c. c.items) ground.clauses.items ++ map (λ c. c.items) ground.gates.items) m
-      → AreBrokenBy g nodes s.made.terms s.words ground.facts.items first m.values.items more → AreNewCongruences g nodes s.made.terms s.words gr.cs more
+      → AreBrokenBy g nodes s.made.terms s.words ground.facts.items m.values.items more → AreNewCongruences g nodes s.made.terms s.words gr.cs more
   broken_new more solved h = record {
     congruences = h.congruences;
     new = λ c there listed.
@@ -101,9 +99,9 @@ module _ (g : Signature) (nodes : List Node) (s : Spoken) (ground : GroundClause
         let facts = map (fact_at nodes terms) ground.facts.items in
         let all = map (λ c. c.items) ground.clauses.items ++ map (λ c. c.items) ground.gates.items in
         let values : ℕ → Bool = λ x. unwrap_or (slice_get m.values.items x) false in
-        let have = facts_have g nodes s ground gr first begins m h.found formed placed once words has in
+        let have = facts_have g nodes s ground gr m h.found formed placed once words has in
         let (clause, own, inside) = gr.clauses.tables c listed in
-        let met : is_met a c ≡ true = sym (clause_value s.made facts a values have clause c own) ∙ list_all-Contains (meets_clause values) all clause solved.meet inside in
+        let met : is_met a c ≡ true = sym (clause_value facts a values have clause c own) ∙ list_all-Contains (meets_clause values) all clause solved.meet inside in
         let is_found = found_same terms placed once nodes formed pairs words.pairs has.columns g h.found has.is_found in
         let (x, here, same) = in_map (clause_at nodes terms) more c there in
         let unmet = broken_unmet g nodes terms pairs h.found a is_found
@@ -116,13 +114,13 @@ module _ (g : Signature) (nodes : List Node) (s : Spoken) (ground : GroundClause
   -- and so where the lists are these
   pub broken_as : (fs : List FactNode) (cs : List (List Literal)) (more : List (List FactLiteral)) → fs ≡ ground.facts.items
       → cs ≡ map (λ c. c.items) ground.clauses.items ++ map (λ c. c.items) ground.gates.items → AreSolved cs m
-      → AreBrokenBy g nodes s.made.terms s.words fs first m.values.items more → AreNewCongruences g nodes s.made.terms s.words gr.cs more
+      → AreBrokenBy g nodes s.made.terms s.words fs m.values.items more → AreNewCongruences g nodes s.made.terms s.words gr.cs more
   broken_as fs cs more e k solved h =
       broken_new more (subst (λ (cs : List (List Literal)). AreSolved cs m) k solved)
-      (subst (λ (fs : List FactNode). AreBrokenBy g nodes s.made.terms s.words fs first m.values.items more) e h)
+      (subst (λ (fs : List FactNode). AreBrokenBy g nodes s.made.terms s.words fs m.values.items more) e h)
 
 module _ (g : Signature) (nodes : List Node) (f : Formula) (ts : List GroundTerm) (closed : Bool) (s : Spoken) (ground : GroundClauses) (over : IsOver g [] f) (normal : IsNormal f)
-    (is : IsSpoken g nodes f ts closed s) (gr : IsGroundFor g nodes s ground) (gates : AreGatesPlaced s.made.gates) (first : ℕ) (begins : first ≡ length s.made.inputs) where
+    (is : IsSpoken g nodes f ts closed s) (gr : IsGroundFor g nodes s ground) where
   abbrev all : List (List Literal)
   all = map (λ c. c.items) ground.clauses.items ++ map (λ c. c.items) ground.gates.items
 
@@ -130,25 +128,25 @@ module _ (g : Signature) (nodes : List Node) (f : Formula) (ts : List GroundTerm
   facts = map (fact_at nodes s.made.terms) ground.facts.items
 
   -- where no values are, no structure passes the formula
-  pub nowhere : (texts : List (List ℕ)) → AreTexts texts → IsNowhere g nodes s.made.terms s.words texts first ground.facts.items all → IsSatisfiableOver g f (Contains ts) → ⊥
+  pub nowhere : (texts : List (List ℕ)) → AreTexts texts → IsNowhere g nodes s.made.terms s.words texts ground.facts.items all → IsSatisfiableOver g f (Contains ts) → ⊥
   nowhere texts are none sat =
       let v = vocabulary_at s.made.terms s.words in
       let (spare, m, values, law, have, meet) =
-      grounded g f ts v gr.cs texts nodes s.made facts all over normal is.vocabulary (texts_are texts are) is.instances gates gr.clauses gr.listed.only sat in
-      none spare m values law (λ k p e. ap (λ n. values (n + k)) begins ∙ have k (fact_at nodes s.made.terms p) (mapped (fact_at nodes s.made.terms) ground.facts.items k p e)) meet
+      grounded g f ts v gr.cs texts nodes s.made facts ground.end all over normal is.vocabulary (texts_are texts are) is.instances gr.clauses gr.listed.only sat in
+      none spare m values law (λ k p e. have k (fact_at nodes s.made.terms p) (mapped (fact_at nodes s.made.terms) ground.facts.items k p e)) meet
 
   -- and where there are values and columns, and what was found is congruent, there is a table
   pub found_table : (m : Mixture) (found : Found) → AreNodesPlaced nodes → ArePlaced s.made.terms → AreOnce s.made.terms → AreSolved all m
-      → HasColumns g nodes s.made.terms s.words ground.facts.items first m.values.items found → IsFoundCongruent s.made.terms s.words found → HasTable g f ts s found
+      → HasColumns g nodes s.made.terms s.words ground.facts.items m.values.items found → IsFoundCongruent s.made.terms s.words found → HasTable g f ts s found
   found_table m found formed placed once solved has fits =
       let terms = s.made.terms in
       let pairs = s.words.pairs.items in
       let v = vocabulary_at terms s.words in
       let a : Assignment = assignment_by terms pairs has.columns in
       let values : ℕ → Bool = λ x. unwrap_or (slice_get m.values.items x) false in
-      let have = facts_have g nodes s ground gr first begins m found formed placed once is.words has in
-      let met = met_tables g f ts gr.cs nodes s.made facts all over is.instances gates gr.clauses a values have solved.meet in
-      let read = met_read g f ts gr.cs nodes s.made facts all over is.instances gates gr.clauses a values have solved.meet in
+      let have = facts_have g nodes s ground gr m found formed placed once is.words has in
+      let met = met_tables g f ts gr.cs nodes s.made facts ground.end all over is.instances gr.clauses a values have solved.meet in
+      let read = met_read g f ts gr.cs nodes s.made facts ground.end all over is.instances gr.clauses a values have solved.meet in
       let typed = typed_same terms placed once nodes formed pairs is.words.pairs has.columns g s.words (typed_both g terms has.columns s.words.named.items s.words.others.items has.named_typed has.others_typed) in
       let is_found = found_same terms placed once nodes formed pairs is.words.pairs has.columns g found has.is_found in
       let base = list_all-from (is_met a) (base_clauses g v) (λ c here. list_all-Contains (is_met a) gr.cs c met (gr.listed.base c here)) in
@@ -163,24 +161,24 @@ module _ (g : Signature) (nodes : List Node) (f : Formula) (ts : List GroundTerm
 
   -- and so where the lists are these
   pub nowhere_as : (texts : List (List ℕ)) → AreTexts texts → (fs : List FactNode) (cs : List (List Literal)) → fs ≡ ground.facts.items → cs ≡ all
-      → IsNowhere g nodes s.made.terms s.words texts first fs cs → IsSatisfiableOver g f (Contains ts) → ⊥
+      → IsNowhere g nodes s.made.terms s.words texts fs cs → IsSatisfiableOver g f (Contains ts) → ⊥
   nowhere_as texts are fs cs e k none =
       nowhere texts are
-      (subst (λ (fs : List FactNode). IsNowhere g nodes s.made.terms s.words texts first fs all) e
-      (subst (λ (cs : List (List Literal)). IsNowhere g nodes s.made.terms s.words texts first fs cs) k none))
+      (subst (λ (fs : List FactNode). IsNowhere g nodes s.made.terms s.words texts fs all) e
+      (subst (λ (cs : List (List Literal)). IsNowhere g nodes s.made.terms s.words texts fs cs) k none))
 
   pub found_as : (m : Mixture) (found : Found) → AreNodesPlaced nodes → ArePlaced s.made.terms → AreOnce s.made.terms → (fs : List FactNode) (cs : List (List Literal)) → fs ≡ ground.facts.items → cs ≡ all
-      → AreSolved cs m → HasColumns g nodes s.made.terms s.words fs first m.values.items found → IsFoundCongruent s.made.terms s.words found → HasTable g f ts s found
+      → AreSolved cs m → HasColumns g nodes s.made.terms s.words fs m.values.items found → IsFoundCongruent s.made.terms s.words found → HasTable g f ts s found
   found_as m found formed placed once fs cs e k solved has fits =
       found_table m found formed placed once (subst (λ (cs : List (List Literal)). AreSolved cs m) k solved)
-      (subst (λ (fs : List FactNode). HasColumns g nodes s.made.terms s.words fs first m.values.items found) e has) fits
+      (subst (λ (fs : List FactNode). HasColumns g nodes s.made.terms s.words fs m.values.items found) e has) fits
 
 -- clauses that are broken by what was found by columns
-pub broken_by : (g : Signature) (nodes : List Node) (terms : List TermNode) (w : Words) (facts : List FactNode) (first : ℕ) (values : List Bool) (found : Found)
-    (o : Option (Vec (Vec FactLiteral Global) Global)) (clauses : Vec (Vec FactLiteral Global) Global) → o ≡ Some clauses → HasColumns g nodes terms w facts first values found
+pub broken_by : (g : Signature) (nodes : List Node) (terms : List TermNode) (w : Words) (facts : List FactNode) (values : List Bool) (found : Found)
+    (o : Option (Vec (Vec FactLiteral Global) Global)) (clauses : Vec (Vec FactLiteral Global) Global) → o ≡ Some clauses → HasColumns g nodes terms w facts values found
     → IfSome o (λ cs. AreCongruences g nodes terms w (map (λ c. c.items) cs.items)) → IfSome o (λ cs. All (IsBroken terms found w.pairs.items) (map (λ c. c.items) cs.items))
-    → IfSome o (λ cs. cs.items ≢ []) → AreBrokenBy g nodes terms w facts first values (map (λ c. c.items) clauses.items)
-broken_by g nodes terms w facts first values found o clauses e has congruences broken some =
+    → IfSome o (λ cs. cs.items ≢ []) → AreBrokenBy g nodes terms w facts values (map (λ c. c.items) clauses.items)
+broken_by g nodes terms w facts values found o clauses e has congruences broken some =
     let P : Option (Vec (Vec FactLiteral Global) Global) → Type 0 = λ o. IfSome o (λ cs. AreCongruences g nodes terms w (map (λ c. c.items) cs.items)) in
     let Q : Option (Vec (Vec FactLiteral Global) Global) → Type 0 = λ o. IfSome o (λ cs. All (IsBroken terms found w.pairs.items) (map (λ c. c.items) cs.items)) in
     let R : Option (Vec (Vec FactLiteral Global) Global) → Type 0 = λ o. IfSome o (λ cs. cs.items ≢ []) in
@@ -197,15 +195,15 @@ broken_by g nodes terms w facts first values found o clauses e has congruences b
     none_from (c ∷ cs) e = cc
 
 -- the columns of what was found, where the lists are these
-pub columns_as : (g : Signature) (nodes : List Node) (terms : List TermNode) (w : Words) (facts : List FactNode) (first : ℕ) (values : List Bool) (found : Found) (c : Columns)
+pub columns_as : (g : Signature) (nodes : List Node) (terms : List TermNode) (w : Words) (facts : List FactNode) (values : List Bool) (found : Found) (c : Columns)
     (pairs : List PairNode) (vs : List Bool) (named others : List ℕ) → pairs ≡ w.pairs.items → vs ≡ values → named ≡ w.named.items → others ≡ w.others.items
-    → ((k : ℕ) (p : FactNode) → slice_get facts k ≡ Some p → IsSo nodes terms pairs c p (unwrap_or (slice_get vs (first + k)) false)) → AreTyped g terms c named → AreTyped g terms c others
-    → AreFound terms pairs c found → HasColumns g nodes terms w facts first values found
-columns_as g nodes terms w facts first values found c pairs vs named others p q r s so typed typed' is = record {
+    → ((k : ℕ) (p : FactNode) → slice_get facts k ≡ Some p → IsSo nodes terms pairs c p (unwrap_or (slice_get vs k) false)) → AreTyped g terms c named → AreTyped g terms c others
+    → AreFound terms pairs c found → HasColumns g nodes terms w facts values found
+columns_as g nodes terms w facts values found c pairs vs named others p q r s so typed typed' is = record {
   columns = c;
   so = λ k fact e.
-      subst (λ (ps : List PairNode). IsSo nodes terms ps c fact (unwrap_or (slice_get values (first + k)) false)) p
-      (subst (λ (vs : List Bool). IsSo nodes terms pairs c fact (unwrap_or (slice_get vs (first + k)) false)) q (so k fact e));
+      subst (λ (ps : List PairNode). IsSo nodes terms ps c fact (unwrap_or (slice_get values k) false)) p
+      (subst (λ (vs : List Bool). IsSo nodes terms pairs c fact (unwrap_or (slice_get vs k) false)) q (so k fact e));
   named_typed = subst (λ (ids : List ℕ). AreTyped g terms c ids) r typed;
   others_typed = subst (λ (ids : List ℕ). AreTyped g terms c ids) s typed';
   is_found = subst (λ (ps : List PairNode). AreFound terms ps c found) p is;
@@ -235,7 +233,7 @@ tabled_by g nodes f ts closed s found t is has p q r =
 
 -- the clauses say that the formula holds, and what the clauses on facts say
 pub ground_for : (g : Signature) (nodes : List Node) (s : Spoken) (ground : GroundClauses) (cs : List Clause)
-    → AreGroundClauses s.made (map (fact_at nodes s.made.terms) ground.facts.items) nodes cs (map (λ c. c.items) ground.clauses.items ++ map (λ c. c.items) ground.gates.items)
+    → AreGroundClauses (map (fact_at nodes s.made.terms) ground.facts.items) s.made nodes cs ground.end (map (λ c. c.items) ground.clauses.items ++ map (λ c. c.items) ground.gates.items)
     → HaveBase g (vocabulary_at s.made.terms s.words) cs → IsGroundFor g nodes s ground
 ground_for g nodes s ground cs h is = record { cs = cs; listed = is; clauses = h }
 

@@ -35,22 +35,22 @@ slice_behind (x ∷ xs) ys j = let next : suc (length xs) + j ≡ suc (length xs
 
 module _ (g : Signature) (nodes : List Node) (terms : List TermNode) (w : Words) (texts : List (List ℕ)) where
   -- nothing is linked
-  pub none_linked : {V : Type 0} (first vars : ℕ) (facts halves : List FactNode) (vs : List V) (items : V → List PLit) → vs ≡ [] → AreLinked g nodes terms w texts first vars facts halves (map items vs)
-  none_linked first vars facts halves vs items e = record { linked = λ c there. Contains-none c (subst (λ (cs : List (List PLit)). Contains cs c) (ap (map items) e) there) }
+  pub none_linked : {V : Type 0} (vars : ℕ) (facts halves : List FactNode) (vs : List V) (items : V → List PLit) → vs ≡ [] → AreLinked g nodes terms w texts vars facts halves (map items vs)
+  none_linked vars facts halves vs items e = record { linked = λ c there. Contains-none c (subst (λ (cs : List (List PLit)). Contains cs c) (ap (map items) e) there) }
 
-  pub linked_as : {V : Type 0} (first vars : ℕ) (facts hs ks : List FactNode) (vs us : List V) (items : V → List PLit) → ks ≡ hs → us ≡ vs
-      → AreLinked g nodes terms w texts first vars facts hs (map items vs) → AreLinked g nodes terms w texts first vars facts ks (map items us)
-  linked_as {V} first vars facts hs ks vs us items e k h =
-      subst (λ (xs : List FactNode). AreLinked g nodes terms w texts first vars facts xs (map items us)) (sym e)
-      (subst (λ (ys : List V). AreLinked g nodes terms w texts first vars facts hs (map items ys)) (sym k) h)
+  pub linked_as : {V : Type 0} (vars : ℕ) (facts hs ks : List FactNode) (vs us : List V) (items : V → List PLit) → ks ≡ hs → us ≡ vs
+      → AreLinked g nodes terms w texts vars facts hs (map items vs) → AreLinked g nodes terms w texts vars facts ks (map items us)
+  linked_as {V} vars facts hs ks vs us items e k h =
+      subst (λ (xs : List FactNode). AreLinked g nodes terms w texts vars facts xs (map items us)) (sym e)
+      (subst (λ (ys : List V). AreLinked g nodes terms w texts vars facts hs (map items ys)) (sym k) h)
 
   -- one more fact
-  pub halves_more : (first vars k x : ℕ) (facts : List FactNode) (fact : FactNode) (old new : Halves) → slice_get facts k ≡ Some fact → x ≡ first + k
-      → AreLinked g nodes terms w texts first vars facts old.facts.items (map (λ c. c.items) old.links.items) → GoesOnHalving g nodes terms w texts fact x vars old new
-      → AreLinked g nodes terms w texts first vars facts new.facts.items (map (λ c. c.items) new.links.items)
-  halves_more first vars k x facts fact old new at here was (inl same) =
-      let P : Halves → Type 0 = λ h. AreLinked g nodes terms w texts first vars facts h.facts.items (map (λ c. c.items) h.links.items) in subst P (sym same) was
-  halves_more first vars k x facts fact old new at here was (inr (v, u, are, has)) = record {
+  pub halves_more : (vars k x : ℕ) (facts : List FactNode) (fact : FactNode) (old new : Halves) → slice_get facts k ≡ Some fact → x ≡ k
+      → AreLinked g nodes terms w texts vars facts old.facts.items (map (λ c. c.items) old.links.items) → GoesOnHalving g nodes terms w texts fact x vars old new
+      → AreLinked g nodes terms w texts vars facts new.facts.items (map (λ c. c.items) new.links.items)
+  halves_more vars k x facts fact old new at here was (inl same) =
+      let P : Halves → Type 0 = λ h. AreLinked g nodes terms w texts vars facts h.facts.items (map (λ c. c.items) h.links.items) in subst P (sym same) was
+  halves_more vars k x facts fact old new at here was (inr (v, u, are, has)) = record {
     linked = λ c there.
         let P : List (List PLit) → Type 0 = λ cs. Contains cs c in
         elim (cases-append (map (λ c. c.items) old.links.items) (link_clauses x (vars + length old.facts.items)) c (subst P has.links there)) [
@@ -62,9 +62,8 @@ module _ (g : Signature) (nodes : List Node) (terms : List TermNode) (w : Words)
       more : List FactNode
       more = Below v u ∷ Below u v ∷ []
 
-      kept : (y e : ℕ) → IsHalved g nodes terms w texts first vars facts old.facts.items y e → IsHalved g nodes terms w texts first vars facts new.facts.items y e
+      kept : (y e : ℕ) → IsHalved g nodes terms w texts vars facts old.facts.items y e → IsHalved g nodes terms w texts vars facts new.facts.items y e
       kept y e h = record {
-        place = h.place;
         half = h.half;
         v = h.v;
         u = h.u;
@@ -73,26 +72,23 @@ module _ (g : Signature) (nodes : List Node) (terms : List TermNode) (w : Words)
         above_there = ap (λ xs. slice_get xs (h.half + 1)) has.facts ∙ slice_front old.facts.items (Below v u ∷ Below u v ∷ []) (h.half + 1) (Below h.u h.v) h.above_there;
         left = h.left;
         right = h.right;
-        variable = h.variable;
         halves_at = h.halves_at;
       }
 
       none : length old.facts.items ≡ length old.facts.items + 0
       none = omega arith
 
-      fresh : IsHalved g nodes terms w texts first vars facts new.facts.items x (vars + length old.facts.items)
+      fresh : IsHalved g nodes terms w texts vars facts new.facts.items x (vars + length old.facts.items)
       fresh = record {
-        place = k;
         half = length old.facts.items;
         v = v;
         u = u;
-        same_there = at ∙ ap (λ p. Some p) are.is_same;
+        same_there = ap (slice_get facts) here ∙ (at ∙ ap (λ p. Some p) are.is_same);
         below_there = ap (λ xs. slice_get xs (length old.facts.items)) has.facts
             ∙ (ap (slice_get (old.facts.items ++ Below v u ∷ Below u v ∷ [])) none ∙ slice_behind old.facts.items (Below v u ∷ Below u v ∷ []) 0);
         above_there = ap (λ xs. slice_get xs (length old.facts.items + 1)) has.facts ∙ slice_behind old.facts.items (Below v u ∷ Below u v ∷ []) 1;
         left = are.left;
         right = are.right;
-        variable = here;
         halves_at = refl;
       }
 
@@ -123,14 +119,11 @@ module _ (g : Signature) (nodes : List Node) (terms : List TermNode) (w : Words)
       }
 
   -- the literals of all variables
-  pub atoms_whole : (first vars gap : ℕ) (facts halves : List FactNode) (a0 a1 a2 a3 a4 : List Atom) → a0 ≡ [] → a1 ≡ a0 ++ replicate first None → AddsAtoms g nodes terms w texts facts a1 a2 → a3 ≡ a2 ++ replicate gap None
-      → AddsAtoms g nodes terms w texts halves a3 a4 → first + length facts + gap ≡ vars → AreAtomsFor g nodes terms w texts first vars facts halves a4
-  atoms_whole first vars gap facts halves a0 a1 a2 a3 a4 o p q r s t =
-      let front : List Atom = replicate first None in
+  pub atoms_whole : (vars gap : ℕ) (facts halves : List FactNode) (a0 a1 a2 a3 : List Atom) → a0 ≡ [] → AddsAtoms g nodes terms w texts facts a0 a1 → a2 ≡ a1 ++ replicate gap None
+      → AddsAtoms g nodes terms w texts halves a2 a3 → length facts + gap ≡ vars → AreAtomsFor g nodes terms w texts vars facts halves a3
+  atoms_whole vars gap facts halves a0 a1 a2 a3 o q r s t =
       let back : List Atom = replicate gap None in
-      let begun : a1 ≡ front = p ∙ ap (λ ls. ls ++ front) o in
-      let second : a2 ≡ front ++ q.more = q.whole ∙ ap (λ ls. ls ++ q.more) begun in
-      let third : a3 ≡ front ++ (q.more ++ back) = r ∙ (ap (λ ls. ls ++ back) second ∙ append_assoc front q.more back) in
+      let begun : a1 ≡ q.more = q.whole ∙ ap (λ ls. ls ++ q.more) o in
       record {
         own = q.more;
         own_are = q.are;
@@ -138,7 +131,7 @@ module _ (g : Signature) (nodes : List Node) (terms : List TermNode) (w : Words)
         to_gap = t;
         others = s.more;
         others_are = s.are;
-        whole = s.whole ∙ ap (λ ls. ls ++ s.more) third;
+        whole = s.whole ∙ ap (λ ls. ls ++ s.more) (r ∙ ap (λ ls. ls ++ back) begun);
       }
 
   -- the literals of an equality and of a comparison

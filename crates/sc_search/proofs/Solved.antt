@@ -46,16 +46,16 @@ index_or (x ∷ xs) zero = refl
 index_or (x ∷ xs) (suc i) = index_or xs i
 
 -- no lawful model makes the clauses true where their encoding has no lawful assignment
-pub nowhere_by : (g : Signature) (nodes : List Node) (terms : List TermNode) (w : Words) (texts : List (List ℕ)) (first vars : ℕ) (facts halves : List FactNode) (clauses : List (List Literal))
-    (links : List (List PLit)) → StandOnce texts → AreLinked g nodes terms w texts first vars facts halves links
-    → (atoms : List Atom) × IsPlainlyMixed g nodes terms w texts first vars facts halves clauses links atoms → IsNowhere g nodes terms w texts first facts clauses
-nowhere_by g nodes terms w texts first vars facts halves clauses links once linked (atoms, h) =
+pub nowhere_by : (g : Signature) (nodes : List Node) (terms : List TermNode) (w : Words) (texts : List (List ℕ)) (vars : ℕ) (facts halves : List FactNode) (clauses : List (List Literal))
+    (links : List (List PLit)) → StandOnce texts → AreLinked g nodes terms w texts vars facts halves links
+    → (atoms : List Atom) × IsPlainlyMixed g nodes terms w texts vars facts halves clauses links atoms → IsNowhere g nodes terms w texts facts clauses
+nowhere_by g nodes terms w texts vars facts halves clauses links once linked (atoms, h) =
     λ spare m values law have meet.
     let fixed = range_with_len (length terms) (length texts) in
     let classes : IsTrue (is_classes (length terms + length texts) fixed (class_column g nodes terms w texts spare m law)) =
     classes_fit g nodes terms w texts spare m law fixed (λ c there. placed c there) once in
-    h.none (assignment g nodes terms w texts spare m law first vars facts halves values have)
-    (mixed g nodes terms w texts spare m law first vars facts halves values have fixed clauses links atoms h.are linked meet h.bounded classes)
+    h.none (assignment g nodes terms w texts spare m law vars facts halves values have)
+    (mixed g nodes terms w texts spare m law vars facts halves values have fixed clauses links atoms h.are linked meet h.bounded classes)
   where
     placed : (c : ℕ) → Contains (range_with_len (length terms) (length texts)) c → (j : ℕ) × (t : List ℕ) × (slice_get texts j ≡ Some t) × (c ≡ length terms + j)
     placed c there =
@@ -64,14 +64,14 @@ nowhere_by g nodes terms w texts first vars facts halves clauses links once link
         let lt : j < length texts = omega arith in (j, get_or texts j [], slice_get-get_or texts j [] lt, omega arith)
 
 -- the encoding's clauses are those that were asked for
-pub plainly : (g : Signature) (nodes : List Node) (terms : List TermNode) (w : Words) (texts : List (List ℕ)) (first vars t x n : ℕ) (facts halves : List FactNode) (left right : List (List Literal))
+pub plainly : (g : Signature) (nodes : List Node) (terms : List TermNode) (w : Words) (texts : List (List ℕ)) (vars t x n : ℕ) (facts halves : List FactNode) (left right : List (List Literal))
     (links all : List (List PLit)) (atoms : List Atom) → t ≡ length terms → x ≡ length texts → n ≡ vars + length halves
     → all ≡ (map (map plit_of) left ++ map (map plit_of) right) ++ links
-    → AreAtomsFor g nodes terms w texts first vars facts halves atoms
+    → AreAtomsFor g nodes terms w texts vars facts halves atoms
     → ((c : List Literal) → Contains left c → AreBelow vars c) → ((c : List Literal) → Contains right c → AreBelow vars c)
     → ((assignment : List Bool) → IsMixed (t + x) (range_with_len t x) (t + 1) n all atoms assignment → ⊥)
-    → IsPlainlyMixed g nodes terms w texts first vars facts halves (left ++ right) links atoms
-plainly g nodes terms w texts first vars t x n facts halves left right links all atoms p q r s are below above none = record {
+    → IsPlainlyMixed g nodes terms w texts vars facts halves (left ++ right) links atoms
+plainly g nodes terms w texts vars t x n facts halves left right links all atoms p q r s are below above none = record {
   are = are;
   bounded = λ c l listed there. All-Contains (λ (l : Literal). l.var < vars) c l (elim (cases-append left right c listed) [ inl k ↦ below c k | inr k ↦ above c k ]) there;
   none = λ assignment h.

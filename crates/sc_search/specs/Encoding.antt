@@ -118,28 +118,26 @@ module _ (g : Signature) (nodes : List Node) (terms : List TermNode) (w : Words)
   AreAtomsOf (p ∷ ps) [] = ⊥
   AreAtomsOf (p ∷ ps) (a ∷ ls) = IfSome a (IsAtomOf p) × AreAtomsOf ps ls
 
-  -- the variables below the first have no literals, then come those of facts, then others without, and then those of halves
-  pub record AreAtomsFor (first vars : ℕ) (facts halves : List FactNode) (atoms : List Atom) : Type 0 where
+  -- the first variables are those of facts, then come others without literals, and then those of halves
+  pub record AreAtomsFor (vars : ℕ) (facts halves : List FactNode) (atoms : List Atom) : Type 0 where
     pub own : List Atom
     pub own_are : AreAtomsOf facts own
     pub gap : ℕ
-    pub to_gap : first + length facts + gap ≡ vars
+    pub to_gap : length facts + gap ≡ vars
     pub others : List Atom
     pub others_are : AreAtomsOf halves others
-    pub whole : atoms ≡ (replicate first None ++ (own ++ replicate gap None)) ++ others
+    pub whole : atoms ≡ (own ++ replicate gap None) ++ others
 
-  -- two numbers are the same, or one is below the other: the variable of the first fact and those of the halves
-  pub record IsHalved (first vars : ℕ) (facts halves : List FactNode) (x : ℕ) (e : ℕ) : Type 0 where
-    pub place : ℕ
+  -- two numbers are the same, or one is below the other: the variable of the fact and those of the halves
+  pub record IsHalved (vars : ℕ) (facts halves : List FactNode) (x : ℕ) (e : ℕ) : Type 0 where
     pub half : ℕ
     pub v : Value
     pub u : Value
-    pub same_there : slice_get facts place ≡ Some (Same v u)
+    pub same_there : slice_get facts x ≡ Some (Same v u)
     pub below_there : slice_get halves half ≡ Some (Below v u)
     pub above_there : slice_get halves (half + 1) ≡ Some (Below u v)
     pub left : (y : ℕ) × (o : ℤ) × IsNumberSide v y o
     pub right : (y : ℕ) × (o : ℤ) × IsNumberSide u y o
-    pub variable : x ≡ first + place
     pub halves_at : e ≡ vars + half
 
 abbrev pub positive : ℕ → PLit
@@ -195,5 +193,5 @@ pub record AreSameNumbers (g : Signature) (nodes : List Node) (terms : List Term
   pub right : IsNumeric g nodes terms w texts u
 
 -- equalities of numbers have halves, and clauses that link these
-pub record AreLinked (g : Signature) (nodes : List Node) (terms : List TermNode) (w : Words) (texts : List (List ℕ)) (first vars : ℕ) (facts halves : List FactNode) (links : List (List PLit)) : Type 0 where
-  pub linked : (c : List PLit) → Contains links c → (x : ℕ) × (e : ℕ) × IsHalved g nodes terms w texts first vars facts halves x e × Contains (link_clauses x e) c
+pub record AreLinked (g : Signature) (nodes : List Node) (terms : List TermNode) (w : Words) (texts : List (List ℕ)) (vars : ℕ) (facts halves : List FactNode) (links : List (List PLit)) : Type 0 where
+  pub linked : (c : List PLit) → Contains links c → (x : ℕ) × (e : ℕ) × IsHalved g nodes terms w texts vars facts halves x e × Contains (link_clauses x e) c

@@ -21,9 +21,9 @@ use Rattle.sc_clauses.specs.Facts.{fact_at}
 abbrev pub plit_of : Literal → PLit
 plit_of l = record { var = l.var; plus = l.plus }
 
--- the variables of facts, which begin behind the first ones, have the values that an assignment gives these
-abbrev pub HaveValues : List Node → List TermNode → List FactNode → ℕ → Assignment → (ℕ → Bool) → Type 0
-HaveValues nodes terms facts first a values = (k : ℕ) (p : FactNode) → slice_get facts k ≡ Some p → values (first + k) ≡ is_fact a (fact_at nodes terms p)
+-- the variables of facts have the values that an assignment gives these
+abbrev pub HaveValues : List Node → List TermNode → List FactNode → Assignment → (ℕ → Bool) → Type 0
+HaveValues nodes terms facts a values = (k : ℕ) (p : FactNode) → slice_get facts k ≡ Some p → values k ≡ is_fact a (fact_at nodes terms p)
 
 -- the variables of a clause are below a bound
 abbrev pub AreBelow : ℕ → List Literal → Type 0
@@ -33,10 +33,10 @@ AreBelow bound clause = All (λ l. l.var < bound) clause
 pub record AreSolved (clauses : List (List Literal)) (m : Mixture) : Type 0 where
   pub meet : IsTrue (list_all (meets_clause (λ x. unwrap_or (slice_get m.values.items x) false)) clauses)
 
-module _ (g : Signature) (nodes : List Node) (terms : List TermNode) (w : Words) (texts : List (List ℕ)) (first : ℕ) where
+module _ (g : Signature) (nodes : List Node) (terms : List TermNode) (w : Words) (texts : List (List ℕ)) where
   -- the clauses are on the variables below, and no assignment meets them with those of the halves, and has a model
   pub record IsPlainlyMixed (vars : ℕ) (facts halves : List FactNode) (clauses : List (List Literal)) (links : List (List PLit)) (atoms : List Atom) : Type 0 where
-    pub are : AreAtomsFor g nodes terms w texts first vars facts halves atoms
+    pub are : AreAtomsFor g nodes terms w texts vars facts halves atoms
     pub bounded : (c : List Literal) (l : Literal) → Contains clauses c → Contains c l → l.var < vars
     pub none : (assignment : List Bool)
         → IsMixed (length terms + length texts) (range_with_len (length terms) (length texts)) (length terms + 1) (vars + length halves) (map (map plit_of) clauses ++ links) atoms assignment → ⊥
@@ -45,4 +45,4 @@ module _ (g : Signature) (nodes : List Node) (terms : List TermNode) (w : Words)
   abbrev pub IsNowhere : List FactNode → List (List Literal) → Type 0
   IsNowhere facts clauses =
       (spare : ℕ → List ℕ) (m : Model) (values : ℕ → Bool) → IsLawful g texts spare m (vocabulary_at terms w)
-      → HaveValues nodes terms facts first (assignment_of g texts spare m) values → IsTrue (list_all (meets_clause values) clauses) → ⊥
+      → HaveValues nodes terms facts (assignment_of g texts spare m) values → IsTrue (list_all (meets_clause values) clauses) → ⊥

@@ -1,5 +1,5 @@
 -- A table by which a formula is read over ground terms, with what a structure is made of.
-use Rattle.std.specs.Prelude.{◌≡◌, ◌≢◌, ℕ, ◌+◌, All, Bool, true, false, List, [], ◌++◌, Some, Contains, map, slice_get, unwrap_or}
+use Rattle.std.specs.Prelude.{◌≡◌, ◌≢◌, ℕ, All, Bool, true, false, List, [], ◌++◌, Some, Contains, map, slice_get, unwrap_or}
 use Rattle.sc_formula.specs.declared.structure.Signature.{Signature}
 use Rattle.sc_formula.specs.Trees.{Formula}
 use Rattle.sc_terms.specs.GroundTerms.{GroundTerm, no_terms}
@@ -60,7 +60,7 @@ AreListed g nodes terms w clauses = HaveBase g (vocabulary_at terms w) (clauses_
 pub record IsGroundFor (g : Signature) (nodes : List Node) (s : Spoken) (ground : GroundClauses) : Type 0 where
   pub cs : List Clause
   pub listed : HaveBase g (vocabulary_at s.made.terms s.words) cs
-  pub clauses : AreGroundClauses s.made (map (fact_at nodes s.made.terms) ground.facts.items) nodes cs
+  pub clauses : AreGroundClauses (map (fact_at nodes s.made.terms) ground.facts.items) s.made nodes cs ground.end
       (map (λ c. c.items) ground.clauses.items ++ map (λ c. c.items) ground.gates.items)
 
 -- each table that has what was found is the same at terms that are the same
@@ -68,17 +68,17 @@ abbrev pub IsFoundCongruent : List TermNode → Words → Found → Type 0
 IsFoundCongruent terms w found = (g : Signature) (table : Table) → IsFound g terms w.pairs.items found table → IsCongruent (vocabulary_at terms w) table
 
 -- there are columns by which the facts are as their values, that are typed, and that have what was found
-pub record HasColumns (g : Signature) (nodes : List Node) (terms : List TermNode) (w : Words) (facts : List FactNode) (first : ℕ) (values : List Bool) (found : Found) : Type 0 where
+pub record HasColumns (g : Signature) (nodes : List Node) (terms : List TermNode) (w : Words) (facts : List FactNode) (values : List Bool) (found : Found) : Type 0 where
   pub columns : Columns
-  pub so : (k : ℕ) (p : FactNode) → slice_get facts k ≡ Some p → IsSo nodes terms w.pairs.items columns p (unwrap_or (slice_get values (first + k)) false)
+  pub so : (k : ℕ) (p : FactNode) → slice_get facts k ≡ Some p → IsSo nodes terms w.pairs.items columns p (unwrap_or (slice_get values k) false)
   pub named_typed : AreTyped g terms columns w.named.items
   pub others_typed : AreTyped g terms columns w.others.items
   pub is_found : AreFound terms w.pairs.items columns found
 
 -- clauses of congruence, one at least, each broken by what was found by columns by which the facts are as their values
-pub record AreBrokenBy (g : Signature) (nodes : List Node) (terms : List TermNode) (w : Words) (facts : List FactNode) (first : ℕ) (values : List Bool) (clauses : List (List FactLiteral)) : Type 0 where
+pub record AreBrokenBy (g : Signature) (nodes : List Node) (terms : List TermNode) (w : Words) (facts : List FactNode) (values : List Bool) (clauses : List (List FactLiteral)) : Type 0 where
   pub found : Found
-  pub has : HasColumns g nodes terms w facts first values found
+  pub has : HasColumns g nodes terms w facts values found
   pub congruences : AreCongruences g nodes terms w clauses
   pub broken : All (IsBroken terms found w.pairs.items) clauses
   pub some : clauses ≢ []

@@ -134,37 +134,31 @@ pub(crate) fn push_plain(count: u32, atoms: &mut Atoms<Lit>) -> Result<(), Alloc
     Ok(())
 }
 
-/// How many variables come behind the first ones and so many others.
-fn gap_of(first: u32, count: usize, vars: u32) -> Result<u32, AllocError>
-    ensures { IfOk result (λ gap. first + count + gap ≡ vars) }
+/// How many variables come behind so many.
+fn gap_of(count: usize, vars: u32) -> Result<u32, AllocError>
+    ensures { IfOk result (λ gap. count + gap ≡ vars) }
 {
-    let Some(behind) = (first as usize).checked_add(count) else {
-        return Err(AllocError);
-    };
-    if behind > vars as usize {
+    if count > vars as usize {
         return Err(AllocError);
     }
-    Ok(vars - behind as u32)
+    Ok(vars - count as u32)
 }
 
-/// The literals of all variables: those below the first have none, then come those of facts, then
-/// others without, and then those of halves.
+/// The literals of all variables: first come those of facts, then others without, and then those of
+/// halves.
 pub(crate) fn atoms_for(
     alloc: Global,
     reader: Reader<'_>,
-    first: u32,
     vars: u32,
     facts: &[FactNode],
     halves: &[FactNode],
 ) -> Result<Atoms<Lit>, AllocError>
     ensures { IfOk result (λ atoms. AreAtomsFor reader.entry.signature.now
         reader.entry.arena.now reader.entry.terms.now reader.entry.words.now
-        reader.entry.texts.now first vars facts.now halves.now atoms) }
+        reader.entry.texts.now vars facts.now halves.now atoms) }
 {
-    let behind = (first as usize).checked_add(facts.len());
-    let gap = gap_of(first, facts.len(), vars)?;
+    let gap = gap_of(facts.len(), vars)?;
     let mut atoms = Atoms::new(alloc);
-    push_plain(first, &mut atoms)?;
     push_atoms(reader, facts, &mut atoms)?;
     push_plain(gap, &mut atoms)?;
     push_atoms(reader, halves, &mut atoms)?;

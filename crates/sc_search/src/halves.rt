@@ -72,11 +72,21 @@ fn push_links(alloc: Global, x: u32, e: u32, links: &mut Vec<Vec<PLit>>) -> Resu
     push_link(alloc, &[not_same, not_above], links)
 }
 
-/// The number of a place behind some variables.
-fn behind(first: u32, place: usize) -> Result<u32, AllocError>
-    ensures { IfOk result (λ number. number ≡ first + place) }
+/// The variable of the fact at a place.
+pub(crate) fn variable_at(place: usize) -> Result<u32, AllocError>
+    ensures { IfOk result (λ var. var ≡ place) }
 {
-    let Some(number) = (first as usize).checked_add(place) else {
+    if place > u32::MAX as usize {
+        return Err(AllocError);
+    }
+    Ok(place as u32)
+}
+
+/// The number of a place behind some variables.
+fn behind(vars: u32, place: usize) -> Result<u32, AllocError>
+    ensures { IfOk result (λ number. number ≡ vars + place) }
+{
+    let Some(number) = (vars as usize).checked_add(place) else {
         return Err(AllocError);
     };
     if number > u32::MAX as usize {
@@ -145,17 +155,16 @@ fn halve_one(
     }
 }
 
-/// The halves of all equalities of numbers among facts, whose variables begin at the first one, and
-/// the clauses that link them.
+/// The halves of all equalities of numbers among facts, which are the first variables, and the
+/// clauses that link them.
 pub(crate) fn halves_of(
     alloc: Global,
     reader: Reader<'_>,
-    first: u32,
     vars: u32,
     facts: &[FactNode],
 ) -> Result<Halves, AllocError>
     ensures { IfOk result (λ halves. AreLinked reader.entry.signature.now reader.entry.arena.now
-        reader.entry.terms.now reader.entry.words.now reader.entry.texts.now first vars facts.now
+        reader.entry.terms.now reader.entry.words.now reader.entry.texts.now vars facts.now
         halves.facts.items (map (λ c. c.items) halves.links.items)) }
 {
     let mut halves = Halves {
@@ -163,7 +172,7 @@ pub(crate) fn halves_of(
         links: Vec::new(alloc),
     };
     for k in 0..facts.len() {
-        let x = behind(first, k)?;
+        let x = variable_at(k)?;
         halve_one(alloc, reader, facts[k], x, vars, &mut halves)?;
     }
     Ok(halves)

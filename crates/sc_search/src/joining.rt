@@ -93,7 +93,7 @@ fn agrees(
 ) -> Result<bool, AllocError>
     requires { IsWords reader.terms.now reader.words.now }
 {
-    let columns = columns_of(alloc, reader, ground.facts, ground.first, mixture, classes)?;
+    let columns = columns_of(alloc, reader, ground.facts, mixture, classes)?;
     let source = Source {
         arena: reader.arena,
         terms: reader.terms,
@@ -101,7 +101,7 @@ fn agrees(
         columns: &columns,
     };
     let values = mixture.values.as_slice();
-    if check_facts(source, ground.facts, ground.first, values).is_err() {
+    if check_facts(source, ground.facts, values).is_err() {
         return Ok(false);
     }
     is_congruent(alloc, reader, &columns, pairs)
@@ -152,7 +152,7 @@ pub(crate) fn joined_classes(
 {
     let mut classes = Vec::from_slice(alloc, mixture.classes.as_slice())?;
     let own = classes.as_slice();
-    let columns = columns_of(alloc, reader, ground.facts, ground.first, mixture, own)?;
+    let columns = columns_of(alloc, reader, ground.facts, mixture, own)?;
     if !is_congruent(alloc, reader, &columns, pairs)? {
         return Ok(classes);
     }

@@ -57,12 +57,11 @@ fn places_of(alloc: Global, pairs: &[PairNode]) -> Result<IndexSet<PairNode>, Al
     Ok(places)
 }
 
-/// The truth values that facts have, whose variables begin behind the first ones.
+/// The truth values that facts have.
 fn flags_of(
     alloc: Global,
     reader: Reader<'_>,
     facts: &[FactNode],
-    first: u32,
     values: &[bool],
 ) -> Result<Flags, AllocError> {
     let pairs = reader.words.pairs.as_slice();
@@ -73,7 +72,7 @@ fn flags_of(
         related: vec![in alloc; false; pairs.len()]?,
         empty: vec![in alloc; true; reader.signature.sorts as usize]?,
     };
-    for (fact, value) in facts.iter().zip(values.iter().skip(first as usize)) {
+    for (fact, value) in facts.iter().zip(values.iter()) {
         flags.set(&places, *fact, *value);
     }
     Ok(flags)
@@ -138,11 +137,10 @@ pub(crate) fn columns_of(
     alloc: Global,
     reader: Reader<'_>,
     facts: &[FactNode],
-    first: u32,
     mixture: &Mixture,
     classes: &[u32],
 ) -> Result<Columns, AllocError> {
-    let flags = flags_of(alloc, reader, facts, first, mixture.values.as_slice())?;
+    let flags = flags_of(alloc, reader, facts, mixture.values.as_slice())?;
     let classes = with_unnamed(alloc, reader, classes)?;
     let classes = classes.as_slice();
     let values = values_of(alloc, reader, mixture, classes, flags.raised.as_slice())?;

@@ -1,10 +1,11 @@
 //! The search.
 
-ghost use Rattle.std.specs.Prelude.{◌≡◌, ◌++◌, Bool, List, [], Contains, IfOk, IfSome, None, length, map};
+ghost use Rattle.std.specs.Prelude.{◌≡◌, ◌<◌, ◌++◌, Bool, List, [], Contains, IfOk, IfSome, None, length, map};
 ghost use Rattle.sc_formula.specs.NormalForm.{IsNormal};
 ghost use Rattle.sc_formula.specs.Nodes.{IsFormula, formula_of};
 ghost use Rattle.sc_formula.specs.Over.{IsOver};
 ghost use Rattle.sc_formula.specs.Trees.{Formula};
+ghost use Rattle.sc_gates.specs.Clauses.{HaveInputsBelow};
 ghost use Rattle.sc_ground.specs.TermLists.{terms_in};
 ghost use Rattle.sc_tables.specs.Vocabulary.{AreFormed};
 ghost use Rattle.sc_terms.specs.GroundTerms.{GroundTerm};
@@ -51,24 +52,19 @@ fn found_so(
     requires words { IsWords reader.terms.now reader.words.now }
     requires pairs { pairs.now ≡ reader.words.now.pairs.items }
     ensures { IfOk result (HasColumns reader.entry.signature.now reader.entry.arena.now
-        reader.entry.terms.now reader.entry.words.now ground.entry.facts.now ground.entry.first
+        reader.entry.terms.now reader.entry.words.now ground.entry.facts.now
         mixture.now.values.items) }
 {
     let classes = joined_classes(alloc, reader, ground, mixture, pairs)?;
     let own = classes.as_slice();
-    let columns = columns_of(alloc, reader, ground.facts, ground.first, mixture, own)?;
+    let columns = columns_of(alloc, reader, ground.facts, mixture, own)?;
     let source = Source {
         arena: reader.arena,
         terms: reader.terms,
         pairs,
         columns: &columns,
     };
-    check_facts(
-        source,
-        ground.facts,
-        ground.first,
-        mixture.values.as_slice(),
-    )?;
+    check_facts(source, ground.facts, mixture.values.as_slice())?;
     check_ranges(
         reader.signature,
         reader.terms,
@@ -95,10 +91,10 @@ fn found_from(
     requires { IsWords reader.terms.now reader.words.now }
     ensures { IfOk result (IsRound (λ f. HasColumns reader.entry.signature.now
         reader.entry.arena.now reader.entry.terms.now reader.entry.words.now
-        ground.entry.facts.now ground.entry.first mixture.now.values.items f × IsFoundCongruent
+        ground.entry.facts.now mixture.now.values.items f × IsFoundCongruent
         reader.entry.terms.now reader.entry.words.now f) (AreBrokenBy reader.entry.signature.now
         reader.entry.arena.now reader.entry.terms.now reader.entry.words.now
-        ground.entry.facts.now ground.entry.first mixture.now.values.items)) }
+        ground.entry.facts.now mixture.now.values.items)) }
 {
     let pairs = Pairs::of(alloc, reader.words.pairs.as_slice())?;
     let found = found_so(alloc, reader, ground, mixture, &pairs)?;
@@ -127,17 +123,17 @@ fn found_by_clauses(
     requires words { IsWords reader.terms.now reader.words.now }
     ensures none { IfOk result (λ found. found ≡ None → IsNowhere reader.entry.signature.now
         reader.entry.arena.now reader.entry.terms.now reader.entry.words.now
-        reader.entry.texts.now ground.entry.first ground.entry.facts.now (map (λ c. c.items)
+        reader.entry.texts.now ground.entry.facts.now (map (λ c. c.items)
         clauses.items ++ map (λ c. c.items) gates.items)) }
     ensures some { IfOk result (λ found. IfSome found (IsRound (λ f. (m : AnyMixture) × AreSolved
         (map (λ c. c.items) clauses.items ++ map (λ c. c.items)
         gates.items) m × (HasColumns reader.entry.signature.now reader.entry.arena.now
-        reader.entry.terms.now reader.entry.words.now ground.entry.facts.now ground.entry.first
+        reader.entry.terms.now reader.entry.words.now ground.entry.facts.now
         m.values.items f × IsFoundCongruent reader.entry.terms.now reader.entry.words.now f))
         (λ more. (m : AnyMixture) × AreSolved (map (λ c. c.items) clauses.items ++
         map (λ c. c.items) gates.items) m × AreBrokenBy reader.entry.signature.now
         reader.entry.arena.now reader.entry.terms.now reader.entry.words.now
-        ground.entry.facts.now ground.entry.first m.values.items more))) }
+        ground.entry.facts.now m.values.items more))) }
 {
     match solve(alloc, reader, ground, clauses, gates)? {
         None => Ok(None),
@@ -146,25 +142,6 @@ fn found_by_clauses(
             Ok(Some(round))
         }
     }
-}
-
-/// How many variables the clauses are on.
-fn count_of(spoken: &Spoken, ground: &GroundClauses) -> Result<u32, AllocError> {
-    let gates = spoken.made.gates.len();
-    let Some(count) = (ground.first_gate as usize).checked_add(gates) else {
-        return Err(AllocError);
-    };
-    if count > u32::MAX as usize {
-        return Err(AllocError);
-    }
-    Ok(count as u32)
-}
-
-/// How many inputs there are, which are the first variables.
-fn count_of_inputs(spoken: &Spoken) -> Result<u32, AllocError>
-    ensures { IfOk result (λ count. count ≡ length spoken.now.made.inputs) }
-{
-    Ok(spoken.made.inputs.len() as u32)
 }
 
 /// What is found for instances with their vocabulary in one round, by these clauses.
@@ -188,16 +165,13 @@ fn found_for(
         AreNewCongruences signature.now arena.now spoken.now.made.terms spoken.now.words is.cs
         more))) }
 {
-    let _gates = spoken.made.gates.len();
     let _nodes = arena.len();
     let _terms = spoken.made.terms.len();
-    let vars = count_of(spoken, &clauses)?;
-    let first = count_of_inputs(spoken)?;
     let GroundClauses {
         facts,
         clauses,
         gates,
-        first_gate: _,
+        end,
     } = clauses;
     let facts = facts.as_slice();
     let texts = texts_of(alloc, arena, facts)?;
@@ -210,7 +184,7 @@ fn found_for(
         words: &spoken.words,
         texts: own,
     };
-    let ground = Ground { facts, first, vars };
+    let ground = Ground { facts, vars: end };
     found_by_clauses(alloc, reader, ground, clauses, gates)
 }
 
@@ -225,6 +199,8 @@ fn round_by(
     requires words { IsWords spoken.now.made.terms spoken.now.words }
     requires fields { AreFieldsOf spoken.now.made.terms spoken.now.made.inputs
         spoken.now.fields.items }
+    requires below { HaveInputsBelow (length spoken.now.made.inputs) spoken.now.made.gates }
+    requires there { spoken.now.made.root < length spoken.now.made.gates }
     requires listed { AreListed signature.now arena.now spoken.now.made.terms spoken.now.words
         (map (λ c. c.items) facts.now) }
     ensures none { IfOk result (λ found. found ≡ None → (f : Formula) (terms : List GroundTerm)
@@ -252,6 +228,8 @@ fn table_for(
     requires words { IsWords spoken.now.made.terms spoken.now.words }
     requires fields { AreFieldsOf spoken.now.made.terms spoken.now.made.inputs
         spoken.now.fields.items }
+    requires below { HaveInputsBelow (length spoken.now.made.inputs) spoken.now.made.gates }
+    requires there { spoken.now.made.root < length spoken.now.made.gates }
     ensures none { IfOk result (λ found. found ≡ None → (f : Formula) (terms : List GroundTerm)
         (closed : Bool) → IsOver signature.now [] f → IsNormal f → IsSpoken signature.now arena.now
         f terms closed spoken.now → IsSatisfiableOver signature.now f (Contains terms) → ⊥) }
@@ -279,13 +257,11 @@ fn spoken_of(
     terms: Terms,
     closed: bool,
 ) -> Result<Spoken, AllocError>
-    requires { IsFormula arena.now id }
-    ensures words { IfOk result (λ spoken. IsWords spoken.made.terms spoken.words) }
-    ensures fields { IfOk result (λ spoken. AreFieldsOf spoken.made.terms spoken.made.inputs
-        spoken.fields.items) }
-    ensures spoken { IfOk result (λ spoken. IsOver signature.now [] (formula_of arena.now id) →
-        AreFormed signature.now (formula_of arena.now id) (terms_in terms) → IsSpoken signature.now
-        arena.now (formula_of arena.now id) (terms_in terms) closed spoken) }
+    requires formula { IsFormula arena.now id }
+    requires over { IsOver signature.now [] (formula_of arena.now id) }
+    requires formed { AreFormed signature.now (formula_of arena.now id) (terms_in terms) }
+    ensures { IfOk result (IsSpoken signature.now arena.now (formula_of arena.now id)
+        (terms_in terms) closed) }
 {
     let variables = variables_of(alloc, arena, id)?;
     let made = instantiate(alloc, arena, id, signature, terms)?;

@@ -1,19 +1,20 @@
 //! The search for values that meet clauses in which facts are as in a lawful model.
 
-ghost use Rattle.std.specs.Prelude.{◌≡◌, ◌+◌, ◌<◌, ◌++◌, Bool, List, None, IfOk, IfSome, OnOk, length, map};
+ghost use Rattle.std.specs.Prelude.{◌≡◌, ◌+◌, ◌-◌, ◌<◌, ◌++◌, Bool, List, None, IfOk, IfSome, OnOk, length, map};
 ghost use Rattle.std.specs.List.{range_with_len};
 ghost use Rattle.sc_mixed.specs.Mixed.{Atom as AnyAtom, IsMixed, IsMixture};
 ghost use Rattle.sc_search.specs.Problem.{AreSolved, IsNowhere, IsPlainlyMixed, plit_of};
 ghost use Rattle.sc_search.specs.Texts.{StandOnce};
 
 use crate::atoms::{Lit, atoms_for};
-use crate::halves::halves_of;
+use crate::halves::{halves_of, variable_at};
 use crate::problem::{are_below, are_taken, are_within, is_within, push_clauses, push_copies};
 use crate::sides::Reader;
 use sc_ast::Txt;
 use sc_clauses::FactNode;
 use sc_gates::Literal;
 use sc_mixed::{Mixture, search_mixed};
+use sc_solver::limits::TOO_MANY;
 use sc_solver::{Atoms, Clauses, PLit};
 use sc_term_arena::TermArena;
 use std::alloc::{AllocError, Global};
@@ -35,10 +36,10 @@ fn numbers_from(alloc: Global, first: u32, count: u32) -> Result<Vec<u32>, Alloc
 /// How many terms there are, if these are few.
 fn few_terms(terms: &TermArena) -> Result<u32, AllocError>
     ensures is { IfOk result (λ few. few ≡ length terms.now) }
-    ensures less { IfOk result (λ few. few < 1999999999) }
+    ensures less { IfOk result (λ few. few < TOO_MANY - 1) }
 {
     let count = terms.len();
-    if count >= 1_999_999_999 {
+    if count >= TOO_MANY - 1 {
         return Err(AllocError);
     }
     Ok(count as u32)
@@ -47,10 +48,10 @@ fn few_terms(terms: &TermArena) -> Result<u32, AllocError>
 /// How many texts there are, if these are few.
 fn few_texts(texts: &[Txt]) -> Result<u32, AllocError>
     ensures is { IfOk result (λ few. few ≡ length texts.now) }
-    ensures less { IfOk result (λ few. few < 1999999999) }
+    ensures less { IfOk result (λ few. few < TOO_MANY - 1) }
 {
     let count = texts.len();
-    if count >= 1_999_999_999 {
+    if count >= TOO_MANY - 1 {
         return Err(AllocError);
     }
     Ok(count as u32)
@@ -59,12 +60,12 @@ fn few_texts(texts: &[Txt]) -> Result<u32, AllocError>
 /// How many variables there are with those of halves, if these are few.
 fn few_variables(vars: u32, halves: &[FactNode]) -> Result<u32, AllocError>
     ensures is { IfOk result (λ few. few ≡ vars + length halves.now) }
-    ensures less { IfOk result (λ few. few < 1999999999) }
+    ensures less { IfOk result (λ few. few < TOO_MANY - 1) }
 {
     let Some(count) = (vars as usize).checked_add(halves.len()) else {
         return Err(AllocError);
     };
-    if count >= 1_999_999_999 {
+    if count >= TOO_MANY - 1 {
         return Err(AllocError);
     }
     Ok(count as u32)
@@ -81,9 +82,9 @@ fn search_checked(
     atoms: Atoms<Lit>,
     first: &[PLit],
 ) -> Result<Option<Mixture>, AllocError>
-    requires terms { terms < 1999999999 }
-    requires texts { texts < 1999999999 }
-    requires vars { vars < 2000000000 }
+    requires terms { terms < TOO_MANY - 1 }
+    requires texts { texts < TOO_MANY - 1 }
+    requires vars { vars < TOO_MANY }
     requires one_each { length atoms ≡ vars }
     ensures none { IfOk result (λ found. found ≡ None → (assignment : List Bool) → IsMixed (terms +
         texts) (range_with_len terms texts) (terms + 1) vars clauses.list atoms assignment → ⊥) }
@@ -96,7 +97,7 @@ fn search_checked(
     if !is_within(vars, first) {
         return Err(AllocError);
     }
-    if clauses.len() >= 2_000_000_000 {
+    if clauses.len() >= TOO_MANY {
         return Err(AllocError);
     }
     search_mixed(
@@ -140,12 +141,11 @@ fn clauses_for(
     Ok(all)
 }
 
-/// The facts of which the clauses speak that a search has to meet.
+/// The facts of which the clauses speak that a search has to meet, which are the first variables.
 #[derive(Clone, Copy)]
 pub(crate) struct Ground<'a> {
     pub(crate) facts: &'a [FactNode],
-    /// The variable of the first fact, and how many variables there are.
-    pub(crate) first: u32,
+    /// How many variables there are.
     pub(crate) vars: u32,
 }
 
@@ -163,13 +163,11 @@ fn is_tried_first(fact: FactNode) -> bool {
 }
 
 /// The values that are tried first.
-fn values_first(alloc: Global, facts: &[FactNode], first: u32) -> Result<Vec<PLit>, AllocError> {
+fn values_first(alloc: Global, facts: &[FactNode]) -> Result<Vec<PLit>, AllocError> {
     let mut values = Vec::new(alloc);
     for place in 0..facts.len() {
         if is_tried_first(facts[place]) {
-            let Some(var) = first.checked_add(u32::try_from(place).map_err(|_| AllocError)?) else {
-                return Err(AllocError);
-            };
+            let var = variable_at(place)?;
             values.push(PLit { var, plus: true })?;
         }
     }
@@ -188,7 +186,7 @@ fn solve_with(
 ) -> Result<Option<Mixture>, AllocError>
     ensures none { IfOk result (λ found. found ≡ None → (atoms : List AnyAtom) × IsPlainlyMixed
         reader.entry.signature.now reader.entry.arena.now reader.entry.terms.now
-        reader.entry.words.now reader.entry.texts.now ground.entry.first ground.entry.vars
+        reader.entry.words.now reader.entry.texts.now ground.entry.vars
         ground.entry.facts.now halves.now (map (λ c. c.items) clauses.items
         ++ map (λ c. c.items) gates.items) (map (λ c. c.items) links.now)
         atoms) }
@@ -204,18 +202,11 @@ fn solve_with(
         return Err(AllocError);
     }
     let clauses = clauses_for(alloc, clauses, gates, links)?;
-    let atoms = atoms_for(
-        alloc,
-        reader,
-        ground.first,
-        ground.vars,
-        ground.facts,
-        halves,
-    )?;
+    let atoms = atoms_for(alloc, reader, ground.vars, ground.facts, halves)?;
     if atoms.len() != total as usize {
         return Err(AllocError);
     }
-    let values = values_first(alloc, ground.facts, ground.first)?;
+    let values = values_first(alloc, ground.facts)?;
     search_checked(
         alloc,
         terms,
@@ -239,12 +230,12 @@ pub(crate) fn solve(
     requires { StandOnce reader.texts.now }
     ensures none { IfOk result (λ found. found ≡ None → IsNowhere reader.entry.signature.now
         reader.entry.arena.now reader.entry.terms.now reader.entry.words.now
-        reader.entry.texts.now ground.entry.first ground.entry.facts.now (map (λ c. c.items)
+        reader.entry.texts.now ground.entry.facts.now (map (λ c. c.items)
         clauses.items ++ map (λ c. c.items) gates.items)) }
     ensures some { IfOk result (λ found. IfSome found (AreSolved (map (λ c. c.items)
         clauses.items ++ map (λ c. c.items) gates.items))) }
 {
-    let halves = halves_of(alloc, reader, ground.first, ground.vars, ground.facts)?;
+    let halves = halves_of(alloc, reader, ground.vars, ground.facts)?;
     let facts = halves.facts.as_slice();
     let links = halves.links.as_slice();
     solve_with(alloc, reader, ground, clauses, gates, facts, links)

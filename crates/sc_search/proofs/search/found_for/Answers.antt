@@ -10,8 +10,8 @@ pub returns-clause-none : goal.returns-clause-none
 returns-clause-none c =
     ok_too c.found_by_clauses.result _ _
     (λ found h none f ts closed over normal is gr.
-    nowhere_as c.args.signature.now c.args.arena.now f ts closed c.args.spoken.now c.args.clauses over normal is gr c.len-gates.ensures.placed c.in_ok-first.first
-    c.in_ok-first.ensures c.as_slice-own.result.now c.see_texts.ensures c.as_slice-facts.result.now _ c.as_slice-facts.ensures.value
+    nowhere_as c.args.signature.now c.args.arena.now f ts closed c.args.spoken.now c.args.clauses over normal is gr
+    c.as_slice-own.result.now c.see_texts.ensures c.as_slice-facts.result.now _ c.as_slice-facts.ensures.value
     refl (h none))
     c.found_by_clauses.ensures.none
 
@@ -22,17 +22,16 @@ returns-clause-some c =
     let g = c.args.signature.now in
     let nodes = c.args.arena.now in
     let facts = c.as_slice-facts.result.now in
-    let first = c.in_ok-first.first in
     let all = map (λ c. c.items) ground.clauses.items ++ map (λ c. c.items) ground.gates.items in
     ok_too c.found_by_clauses.result _ _
     (λ found h. some_too found _ _
-    (λ r k. round_too r _ _ (λ more. (m : Mixture) × AreSolved all m × AreBrokenBy g nodes s.made.terms s.words facts first m.values.items more)
+    (λ r k. round_too r _ _ (λ more. (m : Mixture) × AreSolved all m × AreBrokenBy g nodes s.made.terms s.words facts m.values.items more)
     (λ more. (is : IsGroundFor g nodes s ground) → AreNewCongruences g nodes s.made.terms s.words is.cs more)
     (λ x k f ts closed over normal is gr.
-    found_as g nodes f ts closed s ground over normal is gr c.len-gates.ensures.placed first c.in_ok-first.ensures k.0 x c.len-nodes.ensures.placed c.len-terms.ensures.placed
+    found_as g nodes f ts closed s ground over normal is gr k.0 x c.len-nodes.ensures.placed c.len-terms.ensures.placed
     c.len-terms.ensures.once facts _ c.as_slice-facts.ensures.value refl k.1 k.2.0 k.2.1)
     (λ more k gr.
-    broken_as g nodes s ground gr first c.in_ok-first.ensures k.0 c.len-nodes.ensures.placed c.len-terms.ensures.placed c.len-terms.ensures.once c.requires facts all more
+    broken_as g nodes s ground gr k.0 c.len-nodes.ensures.placed c.len-terms.ensures.placed c.len-terms.ensures.once c.requires facts all more
     c.as_slice-facts.ensures.value refl k.1 k.2)
     k) h)
     c.found_by_clauses.ensures.some

@@ -5,9 +5,10 @@ use Rattle.sc_ground.specs.TermLists.{terms_in}
 use Rattle.sc_search.proofs.Solved.{ok_too}
 use Rattle.sc_search.proofs.search.spoken_of.Goals as goal
 
-pub returns-clause-spoken : goal.returns-clause-spoken
-returns-clause-spoken c =
+pub returns : goal.returns
+returns c =
     ok_too c.vocabulary_of.result _ _
-    (λ spoken h over formed.
-    h (formula_of c.args.arena.now c.args.id) (terms_in c.args.terms) over formed (ap (map variable_at) c.as_slice.ensures.value ∙ c.in_ok-variables.ensures c.args.signature.now) c.in_ok-made.ensures)
+    (λ spoken h.
+    h (formula_of c.args.arena.now c.args.id) (terms_in c.args.terms) c.requires.over c.requires.formed
+    (ap (map variable_at) c.as_slice.ensures.value ∙ c.in_ok-variables.ensures c.args.signature.now) c.in_ok-made.ensures)
     c.vocabulary_of.ensures.spoken

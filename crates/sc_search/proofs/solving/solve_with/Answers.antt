@@ -9,7 +9,7 @@ returns-clause-none c =
     ok_too c.search_checked.result _ _
     (λ found h none. (
       c.in_ok-atoms.atoms,
-      plainly c.args.reader.signature.now c.args.reader.arena.now c.args.reader.terms.now c.args.reader.words.now c.args.reader.texts.now c.args.ground.first c.args.ground.vars
+      plainly c.args.reader.signature.now c.args.reader.arena.now c.args.reader.terms.now c.args.reader.words.now c.args.reader.texts.now c.args.ground.vars
           c.in_ok-terms.terms c.in_ok-texts.texts c.in_ok-total.total c.args.ground.facts.now c.args.halves.now (map (λ c. c.items) c.args.clauses.items)
           (map (λ c. c.items) c.args.gates.items) (map (λ c. c.items) c.args.links.now) c.in_ok-clauses.clauses.list c.in_ok-atoms.atoms
           c.in_ok-terms.ensures.is c.in_ok-texts.ensures.is c.in_ok-total.ensures.is c.in_ok-clauses.ensures c.in_ok-atoms.ensures
