@@ -16,7 +16,7 @@ use std::alloc::{AllocError, Global};
 const MOST_TRIALS: usize = 256;
 
 /// How many facts are looked at for it.
-const MOST_FACTS: usize = 1_000_000;
+const MOST_FACTS: usize = 250_000;
 
 /// A term that is a record and is there.
 #[derive(Clone, Copy)]

@@ -5,8 +5,9 @@ ghost use Rattle.std.specs.Prelude.{◌≡◌, ◌<◌, length, All, IfOk, IfSom
 use std::alloc::{AllocError, Global};
 use std::marker::Model;
 
-/// Variables in a binary heap by their scores, the largest first, each at most once. The order is
-/// what decisions are quick by, and no proof rests on it. Contracts see the number of variables.
+/// Variables in a binary heap by their scores, the largest first, and then by their numbers, each at
+/// most once. The order is what decisions are quick by, and no proof rests on it. Contracts see the
+/// number of variables.
 #[derive(Drop)]
 pub struct Heap {
     /// The heap, from 0 up to `len`.
@@ -118,7 +119,7 @@ impl Heap {
         while place > 0 {
             let above = (place - 1) / 2;
             let parent = self.order[above];
-            if scores[parent as usize] >= scores[var as usize] {
+            if !is_before(scores, var, parent) {
                 break;
             }
             self.put(place, parent);
@@ -136,7 +137,7 @@ impl Heap {
         let var = self.order[0];
         let mut place = 0;
         while let Some((below, child)) = self.child(place, scores) {
-            if scores[child as usize] <= scores[var as usize] {
+            if !is_before(scores, child, var) {
                 break;
             }
             self.put(place, child);
@@ -145,7 +146,7 @@ impl Heap {
         self.put(place, var);
     }
 
-    /// Of those right below a place the one with the larger score, and where it stands.
+    /// Of those right below a place the one that comes first, and where it stands.
     fn child(&self, place: usize, scores: &[u64]) -> Option<(usize, u32)>
         requires place { place < self.now }
         requires one_each { length scores.now ≡ self.now }
@@ -159,12 +160,23 @@ impl Heap {
         let right = left + 1;
         if right < self.len {
             let second = self.order[right];
-            if scores[second as usize] > scores[first as usize] {
+            if is_before(scores, second, first) {
                 return Some((right, second));
             }
         }
         Some((left, first))
     }
+}
+
+/// Whether one variable comes before another: that with the larger score, and of two with the same
+/// the first one. So variables that had no part in conflicts are decided in their order.
+fn is_before(scores: &[u64], one: u32, other: u32) -> bool
+    requires one { one < length scores.now }
+    requires other { other < length scores.now }
+{
+    let score = scores[one as usize];
+    let bound = scores[other as usize];
+    score > bound || score == bound && one < other
 }
 
 /// The numbers below `count`, in order.
