@@ -3,4 +3,5 @@ pub mod Literals
 pub mod Meaning
 pub mod Names
 pub mod Parted
+pub mod Public
 pub mod Said

@@ -2,6 +2,7 @@
 use Rattle.std.specs.Prelude.{◌≡◌, ℕ, ◌+◌, ◌-◌, ◌*◌, leb, Bool, false, not, ◌&&◌, ◌==◌, List, [], ◌∷◌, Option, Some, None, codes, if◌then◌else◌}
 use Rattle.std.specs.Str.{bytes_eq}
 use Rattle.std.specs.Int.{is_in_range}
+use Rattle.sc_run.specs.declared.limits.TheConstants.{MOST_GENERATED}
 
 -- a word that names a file: it is not empty and does not begin with `-`
 abbrev pub is_operand : List ℕ → Bool
@@ -26,10 +27,10 @@ check_of _ = None
 abbrev pub of_digits : ℕ → ℕ → ℕ
 of_digits tens ones = 10 * (tens - 48) + (ones - 48)
 
--- a number from 1 to 60, in digits without a leading zero
+-- a number from 1 to the most commands of a generated script, in digits without a leading zero
 abbrev pub count_of : List ℕ → Option ℕ
 count_of (d ∷ []) = if is_in_range 49 57 d then Some (d - 48) else None
-count_of (d ∷ e ∷ []) = if is_in_range 49 57 d && is_in_range 48 57 e && leb (of_digits d e) 60 then Some (of_digits d e) else None
+count_of (d ∷ e ∷ []) = if is_in_range 49 57 d && is_in_range 48 57 e && leb (of_digits d e) MOST_GENERATED then Some (of_digits d e) else None
 count_of _ = None
 
 -- `gen N`

@@ -4,6 +4,7 @@ ghost use Rattle.std.specs.Prelude.{◌≡◌, IfOk, MatchOption, None, Some};
 ghost use Rattle.sc_ast.specs.Words.{IsText};
 ghost use Rattle.sc_run.specs.Words as spec;
 
+use crate::limits::MOST_GENERATED;
 use sc_ast::Txt;
 use std::alloc::{AllocError, Global};
 
@@ -42,7 +43,7 @@ pub fn check_of(words: &[Txt]) -> Option<Names<'_>>
     }
 }
 
-/// The number from 1 to 60 that a word writes in digits, without a leading zero.
+/// The number from 1 to the most commands of a generated script that a word writes in digits, without a leading zero.
 fn count_of(word: &Txt) -> Option<u32>
     ensures { result ≡ spec.count_of word.now }
 {
@@ -50,7 +51,11 @@ fn count_of(word: &Txt) -> Option<u32>
         [digit @ b'1'..=b'9'] => Some(u32::from(digit - b'0')),
         [tens @ b'1'..=b'9', ones @ b'0'..=b'9'] => {
             let count = 10 * u32::from(tens - b'0') + u32::from(ones - b'0');
-            if count <= 60 { Some(count) } else { None }
+            if count <= MOST_GENERATED {
+                Some(count)
+            } else {
+                None
+            }
         }
         _ => None,
     }
