@@ -5,10 +5,10 @@ ghost use Rattle.sc_solver.specs.Clauses.{IsWithin};
 ghost use Rattle.sc_solver.specs.ContextView.{SameProblem};
 
 use super::Learner;
+use crate::limits::TOO_MANY;
 use crate::literal::PLit;
 use crate::looking::latest_two;
 use crate::units::{ClauseState, clause_state};
-use crate::limits::TOO_MANY;
 use sc_procedure::Theory;
 use std::alloc::AllocError;
 
