@@ -23,9 +23,6 @@ ones_append nodes (x ∷ xs) ys p q = (p.0, ones_append nodes xs ys p.1 q)
 pub told_ones : (nodes : List TermNode) (named others told : List ℕ) → told ≡ named ++ others → AreOnes nodes named → AreOnes nodes others → AreOnes nodes told
 told_ones nodes named others told e p q = let P : List ℕ → Type 0 = λ ids. AreOnes nodes ids in subst P (sym e) (ones_append nodes named others p q)
 
-pub listed_ones : (nodes : List TermNode) (ids listed : List ℕ) → listed ≡ ids → AreOnes nodes ids → AreOnes nodes listed
-listed_ones nodes ids listed e p = let P : List ℕ → Type 0 = λ ids. AreOnes nodes ids in subst P (sym e) p
-
 module _ (g : Signature) (nodes : List Node) (terms : List TermNode) (w : Words) where
   told_terms : (ids : List ℕ) → ids ≡ w.named.items ++ w.others.items → terms_at terms ids ≡ terms_at terms w.named.items ++ terms_at terms w.others.items
   told_terms ids e = ap (terms_at terms) e ∙ map-append (term_of terms) w.named.items w.others.items

@@ -21,9 +21,6 @@ module _ {A B : Type 0} where
   zips_as R S more (a ∷ xs) [] h = absurd h
   zips_as R S more (a ∷ xs) (b ∷ ys) h = (more a b h.0, zips_as R S more xs ys h.1)
 
-  pub zips_none : (R : A → B → Type 0) (xs : List A) → xs ≡ [] → Zips R xs []
-  zips_none R xs e = let P : List A → Type 0 = λ xs. Zips R xs [] in subst P (sym e) tt
-
   -- one element more
   pub zips_next : (R S : A → B → Type 0) → ((x : A) (y : B) → R x y → S x y) → (xs after : List A) (ys : List B) (k : ℕ) (d : B) (x : A) → k < length ys → Zips R xs (take k ys) → S x (get_or ys k d)
       → after ≡ xs ++ x ∷ [] → Zips S after (take (k + 1) ys)
@@ -31,12 +28,6 @@ module _ {A B : Type 0} where
       let P : List A → Type 0 = λ xs. Zips S xs (take (k + 1) ys) in
       let Q : List B → Type 0 = λ ys. Zips S (xs ++ x ∷ []) ys in
       subst P (sym e) (subst Q (sym (take_more ys k d within)) (zips_push S xs (take k ys) x (get_or ys k d) (zips_as R S more xs (take k ys) h) one))
-
-  pub zips_all : (R : A → B → Type 0) (xs : List A) (ys : List B) (k : ℕ) → length ys ≤ k → Zips R xs (take k ys) → Zips R xs ys
-  zips_all R xs ys k past h = let P : List B → Type 0 = λ ys. Zips R xs ys in subst P (take_all k ys past) h
-
-pub kept_none : (n : Numbering) → KeepsFacts n n
-kept_none n = record { more = []; whole = sym (append-nil n.facts.keys) }
 
 pub kept_both : (a b c : Numbering) → KeepsFacts a b → KeepsFacts b c → KeepsFacts a c
 kept_both a b c p q = record {

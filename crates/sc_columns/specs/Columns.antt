@@ -113,15 +113,6 @@ IsFactOf nodes terms (Raised id) = IsOne terms id
 IsFactOf nodes terms (Related p) = IsOne terms p.holder × IsOne terms p.member
 IsFactOf nodes terms (Empty sort) = Unit {0}
 
--- the facts are so where their values are true
-abbrev pub AgreeWith : List Node → List TermNode → List PairNode → Columns → List FactNode → List Bool → Type 0
-AgreeWith nodes terms pairs c facts values =
-    (k : ℕ) (p : FactNode) → slice_get facts k ≡ Some p → unwrap_or (slice_get values k) false ≡ is_fact (assignment_by terms pairs c) (fact_at nodes terms p)
-
--- what was found is what the columns tell
-abbrev pub IsFoundBy : Signature → List TermNode → List PairNode → Columns → Found → Type 0
-IsFoundBy g terms pairs c found = IsFound g terms pairs found (table_for (assignment_by terms pairs c))
-
 -- what a numbered term has where it is there
 abbrev pub entry_by : Columns → ℕ → Option SVal
 entry_by c id = cond (unwrap_or (slice_get c.there id) false) (Some (unwrap_or (slice_get c.values id) (Flag false))) None

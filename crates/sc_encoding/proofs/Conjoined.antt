@@ -183,13 +183,6 @@ module _ (gates : List AnyGate) (inputs : List (List ℕ)) (j : ℕ) (whole : Op
     pub below : All (λ k. k < j) stack
     pub placed : IsPlacedFor gates j now
 
-  pub said_first : (start : Board) (first : List ℕ) → IsPlacedFor gates j start → All (λ k. k < j) first → AreSaid start first start first
-  said_first start first placed below = record {
-    goes = same_board gates inputs j start (of first) (of first) (λ w. refl);
-    below = below;
-    placed = placed;
-  }
-
   popped_all : (stack new : List ℕ) (k : ℕ) → stack ≡ new ++ k ∷ [] → (w : ℕ → Bool) → of stack w ≡ of (k ∷ new) w
   popped_all stack new k e w =
       let t : ℕ → Bool = truth gates inputs w in

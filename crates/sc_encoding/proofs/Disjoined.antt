@@ -109,13 +109,6 @@ module _ (gates : List AnyGate) (inputs : List (List ℕ)) (j : ℕ) (start : Bo
     pub are : AreParts inputs j p
     pub placed : IsPlacedFor gates j now
 
-  pub apart_first : IsPlacedFor gates j start → AreParts inputs j first → IsApart start first
-  apart_first placed are = record {
-    goes = same_board gates inputs j start (λ w. some_part gates inputs w first) (λ w. some_part gates inputs w first) (λ w. refl);
-    are = are;
-    placed = placed;
-  }
-
   placed_later : (a b : Board) (p q : (ℕ → Bool) → Bool) → Goes gates inputs j a b p q → IsPlacedFor gates j a → IsPlacedFor gates j b
   placed_later a b p q h (few, places) = (few, h.names.places ∙ places)
 
@@ -250,13 +243,3 @@ first_parts gates inputs whole a b p l i s w =
     by : (whole : Option ℕ) (x y : Bool) → (meets_clause w (is_none whole) || (y || (x || false))) ≡ under whole w (x || y)
     by None x y = ap (λ b. y || b) (or_false x) ∙ or_comm y x
     by (Some v) x y = ap (λ b. b || (y || (x || false))) (or_false (not (w v))) ∙ ap (λ b. not (w v) || b) (ap (λ b. y || b) (or_false x) ∙ or_comm y x)
-
-pub first_are : (inputs : List (List ℕ)) (below a b : ℕ) (p : Parts) → a < below → b < below → p.inputs.items ≡ [] → p.stack.items ≡ b ∷ a ∷ [] → AreParts inputs below p
-first_are inputs below a b p la lb i s =
-    let P : List ℕ → Type 0 = λ ks. All (λ k. k < length inputs) ks in
-    let Q : List ℕ → Type 0 = λ ks. All (λ k. k < below) ks in
-    let B : ℕ → Type 0 = λ k. k < below in
-    record {
-      inputs_in = subst P (sym i) (λ k d lt. absurd (omega (arith, lt)));
-      stack_below = subst Q (sym s) (All-append B (b ∷ []) (a ∷ []) (all_one B b lb) (all_one B a la));
-    }

@@ -1,5 +1,5 @@
 -- The clauses of all gates that have variables.
-use Rattle.std.proofs.Common.{◌≡◌, ℕ, suc, zero, ◌<◌, ◌+◌, ◌-◌, ◌⊎◌, Bool, true, false, not, ◌&&◌, ◌||◌, cond, inl, inr, refl, sym, ◌∙◌, List, [], ◌∷◌, ◌++◌, Some, None, Option, length, map, ap, subst, arith, slice_get, slice_index_or, get_or, All, Contains, Vec, Global, fold}
+use Rattle.std.proofs.Common.{◌≡◌, ℕ, suc, zero, ◌<◌, ◌≤◌, ◌+◌, ◌-◌, ◌⊎◌, Bool, true, false, not, ◌&&◌, ◌||◌, cond, inl, inr, refl, sym, ◌∙◌, List, [], ◌∷◌, ◌++◌, Some, None, Option, length, map, ap, subst, arith, slice_get, slice_index_or, get_or, All, Contains, Vec, Global, fold}
 use Rattle.std.specs.Prelude.{nat_lt}
 use Rattle.std.specs.List.{list_all}
 use Rattle.std.proofs.lemmas.Bool.Decides.{nat_tests}
@@ -28,11 +28,12 @@ below_or (suc i) (suc k) lt = elim (below_or i k (omega (arith, lt))) [ inl less
 
 module _ (gates : List AnyGate) (inputs : List (List ℕ)) (base root : ℕ) where
   -- the gate itself
-  pub encoded_first : (old new : Board) → old.names.base ≡ base → old.names.owners ≡ [] → clauses_in old ≡ [] → IsPlacedFor gates root old
+  pub encoded_first : (old new : Board) → old.names.base ≡ base → old.names.owners ≡ [] → clauses_in old ≡ [] → IsPlacedFor gates root old → old.names.input_places ≡ length inputs
       → Says gates inputs root old new (λ w. under None w (truth gates inputs w root)) → IsEncodedTo gates inputs base root root new
-  encoded_first old new begins none clauses placed h = record {
+  encoded_first old new begins none clauses placed inputs_placed h = record {
     begins = h.names.base ∙ begins;
     placed = (placed.0, h.names.places ∙ placed.1);
+    inputs_placed = h.names.input_places ∙ inputs_placed;
     own = λ w met. own w met;
     sound = λ w met below. h.sound w met below (own w met) refl;
     complete = λ w faithful on. (h.complete w faithful on (nothing w)).0;
@@ -51,6 +52,7 @@ module _ (gates : List AnyGate) (inputs : List (List ℕ)) (base root : ℕ) whe
   encoded_none board k none h = record {
     begins = h.begins;
     placed = h.placed;
+    inputs_placed = h.inputs_placed;
     own = h.own;
     sound = λ w met below.
         h.sound w met
@@ -75,6 +77,7 @@ module _ (gates : List AnyGate) (inputs : List (List ℕ)) (base root : ℕ) whe
   encoded_on old new k x is h e = record {
     begins = h.names.base ∙ e.begins;
     placed = (e.placed.0, h.names.places ∙ e.placed.1);
+    inputs_placed = h.names.input_places ∙ e.inputs_placed;
     own = λ w met. h.inputs_too w met (e.own w (front w met));
     sound = λ w met below.
         e.sound w (front w met)
@@ -175,10 +178,11 @@ module _ (gates : List AnyGate) (inputs : List (List ℕ)) (base root : ℕ) (va
     faithful : IsFaithful gates inputs (extended v) board.names
     faithful n o at = ap (λ b. extended v (b + n)) h.begins ∙ (behind n o at ∙ sym (same_owner o))
 
-  pub encoded : (end : ℕ) → end ≡ board.names.base + length board.names.owners → All (λ c. All (λ l. l.var < end) c.items) board.clauses.items
+  pub encoded : (end : ℕ) → end ≡ board.names.base + length board.names.owners → length board.names.owners ≤ board.names.places + board.names.input_places → All (λ c. All (λ l. l.var < end) c.items) board.clauses.items
       → IsEncoding base end inputs gates root (clauses_in board)
-  encoded end is within = record {
+  encoded end is few within = record {
     rise = omega (arith, is, h.begins);
+    few = omega (arith, is, few, h.begins, h.placed.1, h.inputs_placed);
     sound = λ v met. h.sound v met (λ n k at lt on. absurd (omega (arith, lt)));
     complete = λ v on. (extended v, kept v, h.complete (extended v) (faithful v) (same_owner v (Gate root) ∙ on));
     below = λ clause l c here. below board.clauses.items within clause l c here;

@@ -17,6 +17,7 @@ pub grows_same : (j : ℕ) (old new : NamesView) → new ≡ old → Grows j old
 grows_same j old new e = record {
   base = ap (λ n. n.base) e;
   places = ap (λ n. n.places) e;
+  input_places = ap (λ n. n.input_places) e;
   more = [];
   whole = ap (λ n. n.owners) e ∙ sym (append-nil old.owners);
   below = λ o c. Contains-none o c;
@@ -26,6 +27,7 @@ pub grows_trans : (j : ℕ) (a b c : NamesView) → Grows j a b → Grows j b c 
 grows_trans j a b c p q = record {
   base = q.base ∙ p.base;
   places = q.places ∙ p.places;
+  input_places = q.input_places ∙ p.input_places;
   more = p.more ++ q.more;
   whole = q.whole ∙ (ap (λ xs. xs ++ q.more) p.whole ∙ append_assoc a.owners p.more q.more);
   below = λ o here. elim (Contains-append_cases p.more q.more o here) [ inl x ↦ p.below o x | inr x ↦ q.below o x ];

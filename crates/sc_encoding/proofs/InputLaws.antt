@@ -1,15 +1,12 @@
 -- Inputs that have variables, and those that are parts of disjunctions.
-use Rattle.std.proofs.Common.{◌≡◌, ℕ, ◌+◌, Bool, true, false, not, ◌&&◌, ◌||◌, inl, inr, refl, sym, ◌∙◌, List, [], ◌∷◌, ◌++◌, Some, length, map, ap, subst, slice_get, slice_index_or, Contains}
-use Rattle.std.specs.List.{list_all}
+use Rattle.std.proofs.Common.{◌≡◌, ℕ, ◌+◌, Bool, true, false, not, ◌||◌, inl, inr, refl, sym, ◌∙◌, List, [], ◌∷◌, ◌++◌, Some, length, map, ap, subst, slice_get, slice_index_or, Contains}
 use Rattle.std.proofs.lemmas.List.Elements.{Contains-append_right}
-use Rattle.std.proofs.lemmas.List.Folds.{list_all-append}
 use Rattle.sc_formula.proofs.Placement.{slice_get_last, slice_get_pushed}
 use Rattle.sc_terms.proofs.Listed.{to_map, in_map}
 use Rattle.sc_terms.proofs.Lists.{Contains-cons_cases, Contains-none, list_all-Contains}
 use Rattle.sc_terms.proofs.Kept.{list_all-from}
 use Rattle.sc_gates.specs.declared.gate.Gate.{Gate as AnyGate}
 use Rattle.sc_gates.specs.declared.gate.Literal.{Literal}
-use Rattle.sc_gates.specs.Gates.{literal_value}
 use Rattle.sc_gates.specs.Clauses.{Meets, meets_clause}
 use Rattle.sc_encoding.specs.declared.board.Board.{Board}
 use Rattle.sc_encoding.specs.declared.names.Owner.{Owner}
@@ -19,47 +16,6 @@ use Rattle.sc_encoding.specs.Meaning.{IsFaithful, input_truth}
 use Rattle.sc_encoding.specs.Names.{IsInputAdded, IsOwnerBelow, IsNamed}
 use Rattle.sc_encoding.specs.Said.{clauses_in, Goes, HasInput}
 use Rattle.sc_encoding.proofs.Going.{goes_same, meets_more}
-
--- a literal that is met
-denied_met : (w : ℕ → Bool) (ls : List Literal) (x : ℕ) → Contains ls (is_false x) → w x ≡ false → meets_clause w ls ≡ true
-denied_met w [] x c e = Contains-none (is_false x) c
-denied_met w (l ∷ ls) x c e =
-    elim (Contains-cons_cases l ls (is_false x) c) [
-      | inl same ↦ ap (λ l. literal_value w l || meets_clause w ls) same ∙ ap (λ b. not b || meets_clause w ls) e
-      | inr later ↦ or_true (literal_value w l) (meets_clause w ls) (denied_met w ls x later e)
-    ]
-  where
-    or_true : (a b : Bool) → b ≡ true → (a || b) ≡ true
-    or_true true b e = refl
-    or_true false b e = e
-
-module _ (w : ℕ → Bool) (ls : List Literal) (xs ys : List ℕ) (x : ℕ) (h : (meets_clause w ls || list_all w xs) ≡ (meets_clause w ls || list_all w ys)) where
-  beside : (m a b x : Bool) → (m || a) ≡ (m || b) → (m || (a && x)) ≡ (m || (b && x))
-  beside true a b x e = refl
-  beside false a b x e = ap (λ c. c && x) e
-
-  and_one : (a x : Bool) → (a && (x && true)) ≡ (a && x)
-  and_one true true = refl
-  and_one true false = refl
-  and_one false x = refl
-
-  all_last : (zs : List ℕ) → list_all w (zs ++ x ∷ []) ≡ (list_all w zs && w x)
-  all_last zs = list_all-append w zs (x ∷ []) ∙ and_one (list_all w zs) (w x)
-
-  pub fact_kept : (meets_clause w ls || list_all w (xs ++ x ∷ [])) ≡ (meets_clause w ls || list_all w (ys ++ x ∷ []))
-  fact_kept =
-      ap (λ b. meets_clause w ls || b) (all_last xs)
-      ∙ (beside (meets_clause w ls) (list_all w xs) (list_all w ys) (w x) h ∙ ap (λ b. meets_clause w ls || b) (sym (all_last ys)))
-
-  without : (m a b x : Bool) → (m || a) ≡ (m || b) → (x ≡ false → m ≡ true) → (m || (a && x)) ≡ (m || b)
-  without true a b x e f = refl
-  without false true b true e f = e
-  without false false b true e f = e
-  without false a b false e f = let impossible = f refl in cc
-
-  pub fact_dropped : Contains ls (is_false x) → (meets_clause w ls || list_all w (xs ++ x ∷ [])) ≡ (meets_clause w ls || list_all w ys)
-  fact_dropped c =
-      ap (λ b. meets_clause w ls || b) (all_last xs) ∙ without (meets_clause w ls) (list_all w xs) (list_all w ys) (w x) h (λ e. denied_met w ls x c e)
 
 module _ (gates : List AnyGate) (inputs : List (List ℕ)) (j k x : ℕ) (old new : Board) where
   abbrev facts : List ℕ
@@ -102,6 +58,7 @@ module _ (gates : List AnyGate) (inputs : List (List ℕ)) (j k x : ℕ) (old ne
       names = record {
         base = added.base;
         places = added.places;
+        input_places = added.input_places;
         more = Input k ∷ [];
         whole = added.whole;
         below = λ o c. elim (Contains-cons_cases (Input k) [] o c) [

@@ -6,7 +6,7 @@ use Rattle.sc_formula.proofs.Placement.{slice_get_front, slice_get_last, slice_g
 use Rattle.sc_terms.proofs.Lists.{Contains-cons_cases, Contains-none}
 use Rattle.sc_encoding.specs.declared.names.Owner.{Owner}
 use Rattle.sc_encoding.specs.declared.names.Owner.TheVariants.{Gate, Input}
-use Rattle.sc_encoding.specs.Names.{NamesView, AreNames, HasNoName, IsOnlyName, IsOwnerBelow, IsGateNamed, Grows}
+use Rattle.sc_encoding.specs.Names.{NamesView, AreNames, HasNoName, IsOnlyName, IsOwnerBelow, IsGateNamed, Grows, taken}
 
 set_here : {A : Type 0} (xs : List A) (k : ℕ) (y : A) → k < length xs → slice_get (set xs k y) k ≡ Some y
 set_here [] k y lt = absurd (omega (arith, lt))
@@ -49,12 +49,31 @@ blank zero k i e = cc
 blank (suc n) zero i e = cc
 blank (suc n) (suc k) i e = blank n k i e
 
+none_taken : (n : ℕ) → taken (blanks n) ≡ 0
+none_taken zero = refl
+none_taken (suc n) = none_taken n
+
+-- a place more is taken
+taken_set : (xs : List (Option ℕ)) (k y : ℕ) → k < length xs → ((n : ℕ) → slice_get xs k ≡ Some (Some n) → ⊥) → taken (set xs k (Some y)) ≡ suc (taken xs)
+taken_set [] k y lt none = absurd (omega (arith, lt))
+taken_set (None ∷ xs) zero y lt none = refl
+taken_set (Some n ∷ xs) zero y lt none = absurd (none n refl)
+taken_set (None ∷ xs) (suc k) y lt none = taken_set xs k y (omega (arith, lt)) none
+taken_set (Some n ∷ xs) (suc k) y lt none = ap suc (taken_set xs k y (omega (arith, lt)) none)
+
+taken_within : (xs : List (Option ℕ)) → taken xs ≤ length xs
+taken_within [] = omega arith
+taken_within (None ∷ xs) = omega (arith, taken_within xs)
+taken_within (Some n ∷ xs) = omega (arith, taken_within xs)
+
 pub none_named : (base n m : ℕ) → base < 2 ^ 32 → AreNames base [] (replicate n None) (replicate m None)
 none_named base n m room = record {
   room = omega (arith, room);
   gate_named = λ k i e. absurd (blank n k i e);
   gate_only = λ k i e. absurd (cc);
   input_named = λ k i e. absurd (blank m k i e);
+  input_only = λ k i e. absurd (cc);
+  one_each = omega (arith, none_taken n, none_taken m);
 }
 
 module _ (base : ℕ) (owners : List Owner) (gates inputs : List (Option ℕ)) (names : AreNames base owners gates inputs) where
@@ -85,10 +104,12 @@ module _ (base : ℕ) (owners : List Owner) (gates inputs : List (Option ℕ)) (
               subst P (sym own) (subst Q (sym same) (set_here gates k (Some end) within))
         ];
     input_named = λ h n e. slice_get_front owners (Gate k ∷ []) n (Input h) (names.input_named h n e);
+    input_only = λ h n e. elim (slice_get_pushed owners (Gate k) n (Input h) e) [ inl before ↦ names.input_only h n before | inr (same, is) ↦ cc ];
+    one_each = omega (arith, names.one_each, length-append owners (Gate k ∷ []), taken_set gates k end within (λ n e. new n (names.gate_named k n e)));
   }
 
-  pub input_added : (k : ℕ) → base + end + 1 < 2 ^ 32 → AreNames base (owners ++ Input k ∷ []) gates (set inputs k (Some end))
-  input_added k room = record {
+  pub input_added : (k : ℕ) → base + end + 1 < 2 ^ 32 → k < length inputs → ((n : ℕ) → slice_get owners n ≡ Some (Input k) → ⊥) → AreNames base (owners ++ Input k ∷ []) gates (set inputs k (Some end))
+  input_added k room within new = record {
     room = omega (arith, room, length-append owners (Input k ∷ []));
     gate_named = λ h n e. slice_get_front owners (Input k ∷ []) n (Gate h) (names.gate_named h n e);
     gate_only = λ h n e.
@@ -105,13 +126,29 @@ module _ (base : ℕ) (owners : List Owner) (gates inputs : List (Option ℕ)) (
               let Q : ℕ → Type 0 = λ n. slice_get (owners ++ Input k ∷ []) n ≡ Some (Input k) in
               subst P (sym same) (subst Q (sym place) (slice_get_last owners (Input k)))
         ];
+    input_only = λ h n e.
+        elim (slice_get_pushed owners (Input k) n (Input h) e) [
+          | inl before ↦
+              set_other inputs k h (Some end) (λ same. let P : ℕ → Type 0 = λ h. slice_get owners n ≡ Some (Input h) in new n (subst P same before))
+              ∙ names.input_only h n before
+          | inr (same, is) ↦
+              let own : h ≡ k = cc in
+              let P : ℕ → Type 0 = λ h. slice_get (set inputs k (Some end)) h ≡ Some (Some n) in
+              let Q : ℕ → Type 0 = λ n. slice_get (set inputs k (Some end)) k ≡ Some (Some n) in
+              subst P (sym own) (subst Q (sym same) (set_here inputs k (Some end) within))
+        ];
+    one_each = omega (arith, names.one_each, length-append owners (Input k ∷ []), taken_set inputs k end within (λ n e. new n (names.input_named k n e)));
   }
 
-  abbrev view : (places : ℕ) → NamesView
-  view places = record { base = base; owners = owners; places = places }
+  -- there are no more variables than gates and inputs
+  pub few_named : end ≤ length gates + length inputs
+  few_named = omega (arith, names.one_each, taken_within gates, taken_within inputs)
 
-  pub only_name : (places k n : ℕ) → slice_get gates k ≡ Some (Some n) → IsOnlyName (view places) (Gate k) (base + n)
-  only_name places k n e = record {
+  abbrev view : ℕ → ℕ → NamesView
+  view places input_places = record { base = base; owners = owners; places = places; input_places = input_places }
+
+  pub only_name : (p q k n : ℕ) → slice_get gates k ≡ Some (Some n) → IsOnlyName (view p q) (Gate k) (base + n)
+  only_name p q k n e = record {
     place = n;
     is = refl;
     here = names.gate_named k n e;
@@ -121,8 +158,11 @@ module _ (base : ℕ) (owners : List Owner) (gates inputs : List (Option ℕ)) (
       same_place : (m n : ℕ) → slice_get gates k ≡ Some (Some m) → slice_get gates k ≡ Some (Some n) → m ≡ n
       same_place m n e d = cc
 
-  pub no_name : (places k : ℕ) → ((n : ℕ) → slice_get gates k ≡ Some (Some n) → ⊥) → HasNoName (view places) (Gate k)
-  no_name places k none n at = none n (names.gate_only k n at)
+  pub no_input_name : (p q k : ℕ) → ((n : ℕ) → slice_get inputs k ≡ Some (Some n) → ⊥) → HasNoName (view p q) (Input k)
+  no_input_name p q k none n at = none n (names.input_only k n at)
+
+  pub no_name : (p q k : ℕ) → ((n : ℕ) → slice_get gates k ≡ Some (Some n) → ⊥) → HasNoName (view p q) (Gate k)
+  no_name p q k none n at = none n (names.gate_only k n at)
 
   pub place_room : (k : Owner) (n : ℕ) → slice_get owners n ≡ Some k → base + n < 2 ^ 32
   place_room k n e = omega (arith, names.room, slice_get_within owners n k e)
@@ -130,17 +170,18 @@ module _ (base : ℕ) (owners : List Owner) (gates inputs : List (Option ℕ)) (
 module _ (old : NamesView) where
   -- nothing is new
   pub same_grows : (j : ℕ) → Grows j old old
-  same_grows j = record { base = refl; places = refl; more = []; whole = sym (append-nil old.owners); below = λ o c. Contains-none o c }
+  same_grows j = record { base = refl; places = refl; input_places = refl; more = []; whole = sym (append-nil old.owners); below = λ o c. Contains-none o c }
 
   pub named_before : (k x : ℕ) → IsOnlyName old (Gate k) x → IsGateNamed k old old x
   named_before k x is = record { grows = λ j lt. same_grows j; inputs = λ n i e. e; is = (is.place, is.is, is.here) }
 
-module _ (k : ℕ) (old new : NamesView) (base : new.base ≡ old.base) (places : new.places ≡ old.places) (owners : new.owners ≡ old.owners ++ Gate k ∷ []) where
+module _ (k : ℕ) (old new : NamesView) (base : new.base ≡ old.base) (places : new.places ≡ old.places) (input_places : new.input_places ≡ old.input_places) (owners : new.owners ≡ old.owners ++ Gate k ∷ []) where
   pub named_now : IsGateNamed k old new (old.base + length old.owners)
   named_now = record {
     grows = λ j lt. record {
       base = base;
       places = places;
+      input_places = input_places;
       more = Gate k ∷ [];
       whole = owners;
       below = λ o c. elim (Contains-cons_cases (Gate k) [] o c) [
@@ -151,12 +192,6 @@ module _ (k : ℕ) (old new : NamesView) (base : new.base ≡ old.base) (places 
     inputs = λ n i e. elim (slice_get_pushed old.owners (Gate k) n (Input i) (ap (λ xs. slice_get xs n) (sym owners) ∙ e)) [ inl before ↦ before | inr (same, is) ↦ cc ];
     is = (length old.owners, ap (λ n. n + length old.owners) (sym base), ap (λ xs. slice_get xs (length old.owners)) owners ∙ slice_get_last old.owners (Gate k));
   }
-
--- a table that has nothing at so large a number stays as it is
-pub set_past : {A : Type 0} (xs : List A) (k : ℕ) (y : A) → length xs ≤ k → xs ≡ set xs k y
-set_past [] k y le = refl
-set_past (x ∷ xs) zero y le = absurd (omega (arith, le))
-set_past (x ∷ xs) (suc k) y le = ap (λ ys. x ∷ ys) (set_past xs k y (omega (arith, le)))
 
 pub length_set : {A : Type 0} (xs : List A) (k : ℕ) (y : A) → length (set xs k y) ≡ length xs
 length_set [] k y = refl

@@ -2,7 +2,7 @@
 use Rattle.std.proofs.Common.{◌≡◌, ℕ, ◌<◌, Bool, true, false, not, ◌&&◌, ◌||◌, cond, refl, sym, ◌∙◌, List, [], ◌∷◌, ◌++◌, length, map, ap, subst, All, Vec, Global, get_or, arith, zero, suc}
 use Rattle.std.specs.List.{list_all, list_any}
 use Rattle.std.specs.Prelude.{slice_index_or}
-use Rattle.std.proofs.lemmas.List.Elements.{All-append, All-cons}
+use Rattle.std.proofs.lemmas.List.Elements.{All-cons}
 use Rattle.std.proofs.lemmas.List.Folds.{list_any-append}
 use Rattle.sc_gates.specs.declared.gate.Gate.{Gate}
 use Rattle.sc_gates.specs.declared.gate.Literal.{Literal}
@@ -114,23 +114,6 @@ pub all_one : {A : Type 0} (P : A → Type 0) (x : A) → P x → All P (x ∷ [
 all_one P x h = All-cons P x [] h (λ k d lt. absurd (omega (arith, lt)))
 
 module _ (inputs : List (List ℕ)) (old new : Parts) where
-  pub one_input : (l : Literal) → l.var < length inputs → l.plus ≡ true → new.literals ≡ old.literals → new.inputs.items ≡ old.inputs.items ++ l.var ∷ [] → new.stack ≡ old.stack
-      → IsWithInput inputs l old new
-  one_input l within on ls e s = record {
-    says = λ gates w.
-        with_input gates inputs old new l.var ls e s w
-        ∙ ap (λ b. b || some_part gates inputs w old) (ap (λ p. cond p (inputs_by inputs w l.var) (not (inputs_by inputs w l.var))) (sym on));
-    are = λ below are.
-        let P : List ℕ → Type 0 = λ ks. All (λ k. k < length inputs) ks in
-        record {
-          inputs_in = subst P (sym e) (All-append (λ k. k < length inputs) old.inputs.items (l.var ∷ []) are.inputs_in (all_one (λ k. k < length inputs) l.var within));
-          stack_below = ap_stack below s are.stack_below;
-        };
-  }
-    where
-      ap_stack : (below : ℕ) → new.stack ≡ old.stack → All (λ k. k < below) old.stack.items → All (λ k. k < below) new.stack.items
-      ap_stack below e all = let P : Vec ℕ Global → Type 0 = λ s. All (λ k. k < below) s.items in subst P (sym e) all
-
   pub no_input : (l : Literal) → l.plus ≡ false → new.literals.items ≡ old.literals.items ++ map is_false (slice_index_or inputs l.var []) → new.inputs ≡ old.inputs → new.stack ≡ old.stack
       → IsWithInput inputs l old new
   no_input l off e i s = record {

@@ -1,5 +1,5 @@
 -- What the clauses say of a gate whose parts below some number are still to be said.
-use Rattle.std.specs.Prelude.{◌≡◌, ℕ, Bool, true, List}
+use Rattle.std.specs.Prelude.{◌≡◌, ℕ, Bool, true, List, length}
 use Rattle.sc_gates.specs.declared.gate.Gate.{Gate as AnyGate}
 use Rattle.sc_gates.specs.Clauses.{Meets}
 use Rattle.sc_encoding.specs.declared.board.Board.{Board}
@@ -11,6 +11,7 @@ use Rattle.sc_encoding.specs.Said.{clauses_in, IsPlacedFor}
 pub record IsEncodedTo (gates : List AnyGate) (inputs : List (List ℕ)) (base root j : ℕ) (board : Board) : Type 0 where
   pub begins : board.names.base ≡ base
   pub placed : IsPlacedFor gates root board
+  pub inputs_placed : board.names.input_places ≡ length inputs
   pub own : (w : ℕ → Bool) → Meets (clauses_in board) w → IsSoundAtInputs gates inputs w board.names
   pub sound : (w : ℕ → Bool) → Meets (clauses_in board) w → IsSoundBelow gates inputs w j board.names → truth gates inputs w root ≡ true
   pub complete : (w : ℕ → Bool) → IsFaithful gates inputs w board.names → truth gates inputs w root ≡ true → Meets (clauses_in board) w

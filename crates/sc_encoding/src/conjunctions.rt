@@ -123,6 +123,7 @@ fn say(
         (all_under source.entry.gates.now inputs whole stack.new.items)) }
     ensures stack { OnOk result (All (λ k. k < source.entry.below) stack.new.items) }
 {
+    // It says that parts have smaller numbers.
     let _count = source.gates.len();
     match source.gates.as_slice()[gate as usize] {
         Gate::Yes => Ok(()),

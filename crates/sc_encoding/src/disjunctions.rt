@@ -61,6 +61,7 @@ fn take(
     ensures are { OnOk result (AreParts (map (λ xs. xs.items) source.entry.inputs.now)
         source.entry.below parts.new) }
 {
+    // It says that parts have smaller numbers.
     let _count = source.gates.len();
     match source.gates.as_slice()[gate as usize] {
         Gate::Yes => Ok(true),

@@ -97,9 +97,8 @@ fn say_named_gates(alloc: Global, source: Source<'_>, board: &mut Board) -> Resu
 /// base, at which their own variables begin. Four thousand million variables count as memory that
 /// is not there.
 ///
-/// A gate that is a part of several others has a variable, and so has a conjunction in a
-/// disjunction: where the variable is true the gate is, and not the other way round (Plaisted and
-/// Greenbaum 1986). All other gates are parts of the clauses of those that have one.
+/// Where a variable is true its gate or its input is, and not the other way round (Plaisted and
+/// Greenbaum 1986). Gates without a variable are parts of the clauses of those that have one.
 pub fn encode(
     alloc: Global,
     gates: &Gates,

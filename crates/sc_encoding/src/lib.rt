@@ -1,6 +1,7 @@
-//! Clauses that say that a gate is true, and few of them: variables of their own stand only for
-//! gates that are parts of several others, for conjunctions in disjunctions, and for inputs of
-//! several facts there (Plaisted and Greenbaum 1986; Tseitin 1968).
+//! Clauses that say that a gate is true, and few of them: variables of their own stand for gates
+//! with parts that are a part of several others, for conjunctions in disjunctions, for inputs of
+//! several facts there, and for what is left where a clause has taken many gates apart (Plaisted
+//! and Greenbaum 1986; Tseitin 1968).
 //!
 //! - `encoding`: `encode`, the clauses of a gate.
 //! - `conjunctions`: the clauses that a gate, or all of some gates, are true.
@@ -10,6 +11,7 @@
 //! - `board`: `Board`, the clauses and the variables so far.
 //! - `names`: `Names`, which variable stands for which gate or input.
 //! - `literals`: variables with signs.
+//! - `source`: the gates that become clauses.
 //! - `uses`: how often a gate is a part of others.
 #![tactic(auto)]
 

@@ -1,6 +1,6 @@
 //! Which variable stands for which gate or input.
 
-ghost use Rattle.std.specs.Prelude.{◌≡◌, ◌<◌, ◌^◌, ◌+◌, [], length, slice_get, slice_set, ℕ, Some, None, replicate, IfOk, IfSome, MatchOption};
+ghost use Rattle.std.specs.Prelude.{◌≡◌, ◌<◌, ◌^◌, ◌+◌, ◌≤◌, [], length, slice_get, slice_set, ℕ, Some, None, replicate, IfOk, MatchOption};
 ghost use Rattle.sc_encoding.specs.Names.{HasNoName, IsGateNamed, IsInputAdded, IsNamed, IsOnlyName};
 
 use std::alloc::{AllocError, Global};
@@ -16,7 +16,7 @@ pub(crate) enum Owner {
 }
 
 /// Variables from a base on, with what each stands for. Contracts see the base, the list of what
-/// they stand for, and for how many gates there are places.
+/// they stand for, and for how many gates and inputs there are places.
 #[derive(Drop)]
 pub(crate) struct Names {
     base: u32,
@@ -36,6 +36,7 @@ impl Model for Names {
       base = n.base;
       owners = n.owners.items;
       places = length n.gates.items;
+      input_places = length n.inputs.items;
     } };
 
     ghost invariant = { λ n. AreNames n.base n.owners.items n.gates.items n.inputs.items };
@@ -85,6 +86,7 @@ impl Names {
           base = base;
           owners = [];
           places = gates;
+          input_places = inputs;
         }) }
     {
         Ok(Names {
@@ -97,7 +99,8 @@ impl Names {
 
     /// The number behind the last variable.
     pub(crate) fn end(&self) -> u32
-        ensures { result ≡ self.now.base + length self.now.owners }
+        ensures is { result ≡ self.now.base + length self.now.owners }
+        ensures few { length self.now.owners ≤ self.now.places + self.now.input_places }
     {
         self.base + self.owners.len() as u32
     }
@@ -115,7 +118,8 @@ impl Names {
 
     /// The variable of an input, if it has one.
     pub(crate) fn of_input(&self, input: u32) -> Option<u32>
-        ensures { IfSome result (IsNamed self.now (Owner.Input input)) }
+        ensures { MatchOption result (HasNoName self.now (Owner.Input input))
+            (IsNamed self.now (Owner.Input input)) }
     {
         match place_in(self.inputs.as_slice(), input) {
             Some(place) => Some(self.base + place),
@@ -149,10 +153,14 @@ impl Names {
         Ok(self.base + place)
     }
 
-    /// One variable more, of an input.
+    /// One variable more, of an input that has none. An input that is not there has no place.
     pub(crate) fn add_input(&mut self, input: u32) -> Result<u32, AllocError>
+        requires { HasNoName self.old (Owner.Input input) }
         ensures { IfOk result (IsInputAdded input self.old self.new) }
     {
+        if input as usize >= self.inputs.len() {
+            return Err(AllocError);
+        }
         let place = self.next()?;
         self.owners.push(Owner::Input(input))?;
         note_place(&mut self.inputs, input, place);

@@ -43,7 +43,8 @@ pub fn check_of(words: &[Txt]) -> Option<Names<'_>>
     }
 }
 
-/// The number from 1 to the most commands of a generated script that a word writes in digits, without a leading zero.
+/// The number that a word writes in digits, without a leading zero: from 1 to the most commands of a
+/// generated script.
 fn count_of(word: &Txt) -> Option<u32>
     ensures { result ≡ spec.count_of word.now }
 {

@@ -1,4 +1,4 @@
--- Clauses on variables, of which some are facts.
+-- Clauses on variables, of which the first are facts.
 use Rattle.std.specs.Prelude.{◌≡◌, ℕ, ◌+◌, ◌<◌, All, Bool, false, List, ◌++◌, Some, Contains, IsTrue, length, map, slice_get, unwrap_or}
 use Rattle.std.specs.List.{list_all, range_with_len}
 use Rattle.sc_formula.specs.declared.structure.Signature.{Signature}

@@ -30,7 +30,7 @@ returns c =
     let base : s.base ≡ c.args.self.now.base = ap (λ n. n.base) c.self.view_is in
     let places : length c.note_place.new.table.items ≡ c.args.self.now.places = ap length c.note_place.ensures ∙ (length_set s.gates.items c.args.gate (Some c.in_ok-place.place) ∙ ap (λ n. n.places) c.self.view_is) in
     let owners : c.push.new.self.items ≡ c.args.self.now.owners ++ Gate c.args.gate ∷ [] = c.in_ok-push.ensures.items ∙ ap (λ n. n.owners ++ Gate c.args.gate ∷ []) c.self.view_is in
-    let new : NamesView = record { base = s.base; owners = c.push.new.self.items; places = length c.note_place.new.table.items } in
+    let new : NamesView = record { base = s.base; owners = c.push.new.self.items; places = length c.note_place.new.table.items; input_places = length s.inputs.items } in
     let P : ℕ → Type 0 = λ x. IsGateNamed c.args.gate c.args.self.now new x in
     let is : c.args.self.now.base + length c.args.self.now.owners ≡ s.base + c.in_ok-place.place = omega (arith, base, place) in
-    subst P is (named_now c.args.gate c.args.self.now new base places owners)
+    subst P is (named_now c.args.gate c.args.self.now new base places (ap (λ n. n.input_places) c.self.view_is) owners)

@@ -14,6 +14,8 @@ invariant_of-result c =
 
 pub returns : goal.returns
 returns c =
-    let view : List Owner → ℕ → NamesView = λ owners places. record { base = c.args.base; owners = owners; places = places } in
+    let view : List Owner → ℕ → ℕ → NamesView = λ owners p q. record { base = c.args.base; owners = owners; places = p; input_places = q } in
     let places : length c.in_ok-blank.field-0.items ≡ c.args.gates = ap length c.in_ok-blank.ensures ∙ length_blank c.args.gates in
-    ap (λ owners. view owners (length c.in_ok-blank.field-0.items)) c.new.ensures.items ∙ ap (view []) places
+    let input_places : length c.in_ok-blank-2.field-0.items ≡ c.args.inputs = ap length c.in_ok-blank-2.ensures ∙ length_blank c.args.inputs in
+    ap (λ owners. view owners (length c.in_ok-blank.field-0.items) (length c.in_ok-blank-2.field-0.items)) c.new.ensures.items
+    ∙ (ap (λ p. view [] p (length c.in_ok-blank-2.field-0.items)) places ∙ ap (view [] c.args.gates) input_places)

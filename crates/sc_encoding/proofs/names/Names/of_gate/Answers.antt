@@ -16,12 +16,12 @@ returns-in-Some c =
     let s = c.self.inside in
     let at = ap (λ xs. slice_get xs c.args.gate) (sym c.as_slice.ensures.value) ∙ c.in-Some.ensures in
     let P : NamesView → Type 0 = λ names. IsOnlyName names (Gate c.args.gate) (s.base + c.in-Some.place) in
-    subst P c.self.view_is (only_name s.base s.owners.items s.gates.items s.inputs.items c.self.invariant (length s.gates.items) c.args.gate c.in-Some.place at)
+    subst P c.self.view_is (only_name s.base s.owners.items s.gates.items s.inputs.items c.self.invariant (length s.gates.items) (length s.inputs.items) c.args.gate c.in-Some.place at)
 
 pub returns-in-None : goal.returns-in-None
 returns-in-None c =
     let s = c.self.inside in
     let P : NamesView → Type 0 = λ names. HasNoName names (Gate c.args.gate) in
     subst P c.self.view_is
-    (no_name s.base s.owners.items s.gates.items s.inputs.items c.self.invariant (length s.gates.items) c.args.gate
+    (no_name s.base s.owners.items s.gates.items s.inputs.items c.self.invariant (length s.gates.items) (length s.inputs.items) c.args.gate
     (λ n e. c.in-None.ensures n (ap (λ xs. slice_get xs c.args.gate) c.as_slice.ensures.value ∙ e)))

@@ -1,7 +1,7 @@
-use Rattle.std.proofs.Common.{subst, ◌∙◌, sym, ap, slice_get, ◌+◌, refl, arith}
-use Rattle.sc_encoding.specs.Names.{NamesView, IsNamed}
+use Rattle.std.proofs.Common.{subst, ◌∙◌, sym, ap, slice_get, ◌+◌, length, refl, arith}
+use Rattle.sc_encoding.specs.Names.{NamesView, HasNoName, IsNamed}
 use Rattle.sc_encoding.specs.declared.names.Owner.TheVariants.{Input}
-use Rattle.sc_encoding.proofs.NamesLaws.{place_room}
+use Rattle.sc_encoding.proofs.NamesLaws.{no_input_name, place_room}
 use Rattle.sc_encoding.proofs.names.Names.of_input.Goals as goal
 
 pub overflow_add-result : goal.overflow_add-result
@@ -17,3 +17,11 @@ returns-in-Some c =
     let at = ap (λ xs. slice_get xs c.args.input) (sym c.as_slice.ensures.value) ∙ c.in-Some.ensures in
     let P : NamesView → Type 0 = λ names. IsNamed names (Input c.args.input) (s.base + c.in-Some.place) in
     subst P c.self.view_is (c.in-Some.place, refl, c.self.invariant.input_named c.args.input c.in-Some.place at)
+
+pub returns-in-None : goal.returns-in-None
+returns-in-None c =
+    let s = c.self.inside in
+    let P : NamesView → Type 0 = λ names. HasNoName names (Input c.args.input) in
+    subst P c.self.view_is
+    (no_input_name s.base s.owners.items s.gates.items s.inputs.items c.self.invariant (length s.gates.items) (length s.inputs.items) c.args.input
+    (λ n e. c.in-None.ensures n (ap (λ xs. slice_get xs c.args.input) c.as_slice.ensures.value ∙ e)))
