@@ -21,7 +21,7 @@ mod rows;
 mod smtlib;
 
 use crate::problem::Problem;
-use crate::problems::{Shape, long_problems, make_problem, problems};
+use crate::problems::{Shape, make_problem, problems};
 use crate::smtlib::text_of;
 use sc_decide::Verdict;
 use std::alloc::AllocError;
@@ -39,24 +39,13 @@ struct Wanted {
 
 fn main(rt: HostRuntime) -> io::Result<()> {
     let wanted = wanted_by_words(&rt)?;
-    answer_usual(&rt, &wanted)?;
-    answer_long(&rt, &wanted)
+    answer_wanted(&rt, &wanted)
 }
 
-/// Answers the formula that is asked for, or each where none is, but those that take long.
-fn answer_usual(rt: &HostRuntime, wanted: &Wanted) -> io::Result<()> {
+/// Answers the formula that is asked for, or each where none is.
+fn answer_wanted(rt: &HostRuntime, wanted: &Wanted) -> io::Result<()> {
     for (name, shape) in problems() {
         if wanted.name.as_ref().is_none_or(|own| own.as_str() == name) {
-            answer(rt, name, shape, wanted.is_text)?;
-        }
-    }
-    Ok(())
-}
-
-/// Answers a formula that takes long where it is asked for.
-fn answer_long(rt: &HostRuntime, wanted: &Wanted) -> io::Result<()> {
-    for (name, shape) in long_problems() {
-        if wanted.name.as_ref().is_some_and(|own| own.as_str() == name) {
             answer(rt, name, shape, wanted.is_text)?;
         }
     }

@@ -17,21 +17,33 @@ pub enum Shape {
     Rows(u32),
     /// A transitive relation on so many elements in a row, where the last is not related to the
     /// first, or else the first not to the last.
-    Chain(u32, bool),
+    Chain { elements: u32, is_open: bool },
     /// So many elements that are all the same, and whether two of them differ.
-    Pairs(u32, bool),
+    Pairs { elements: u32, differ: bool },
     /// So many elements with rising numbers, and whether the last has one below the first.
-    Ranks(u32, bool),
+    Ranks { elements: u32, is_closed: bool },
 }
 
-/// The names and the formulas that are decided where none is asked for.
-pub fn problems() -> [(&'static str, Shape); 13] {
+/// The names and the formulas.
+pub fn problems() -> [(&'static str, Shape); 14] {
     let finds = |others, filters, loosened| {
         Shape::Finds(Finds {
             others,
             filters,
             loosened,
         })
+    };
+    let chain = |is_open| Shape::Chain {
+        elements: 41,
+        is_open,
+    };
+    let pairs = |differ| Shape::Pairs {
+        elements: 399,
+        differ,
+    };
+    let ranks = |elements, is_closed| Shape::Ranks {
+        elements,
+        is_closed,
     };
     [
         ("finds", finds(0, 1, false)),
@@ -41,18 +53,14 @@ pub fn problems() -> [(&'static str, Shape); 13] {
         ("rows-20", Shape::Rows(20)),
         ("wide-finds", finds(2, 3, false)),
         ("wide-finds-loosened", finds(2, 3, true)),
-        ("chain", Shape::Chain(41, false)),
-        ("chain-open", Shape::Chain(41, true)),
-        ("pairs", Shape::Pairs(399, true)),
-        ("pairs-same", Shape::Pairs(399, false)),
-        ("ranks", Shape::Ranks(256, true)),
-        ("ranks-open", Shape::Ranks(64, false)),
+        ("chain", chain(false)),
+        ("chain-open", chain(true)),
+        ("pairs", pairs(true)),
+        ("pairs-same", pairs(false)),
+        ("ranks", ranks(256, true)),
+        ("ranks-open", ranks(64, false)),
+        ("ranks-open-256", ranks(256, false)),
     ]
-}
-
-/// Those that are decided only where they are asked for, since they take long.
-pub fn long_problems() -> [(&'static str, Shape); 1] {
-    [("ranks-open-256", Shape::Ranks(256, false))]
 }
 
 /// The formula of a shape.
@@ -60,8 +68,11 @@ pub fn make_problem(alloc: Global, shape: Shape) -> Result<Problem, AllocError> 
     match shape {
         Shape::Finds(finds) => gain(alloc, finds),
         Shape::Rows(count) => rows(alloc, count),
-        Shape::Chain(elements, is_open) => chain(alloc, elements, is_open),
-        Shape::Pairs(elements, differ) => pairs(alloc, elements, differ),
-        Shape::Ranks(elements, is_closed) => ranks(alloc, elements, is_closed),
+        Shape::Chain { elements, is_open } => chain(alloc, elements, is_open),
+        Shape::Pairs { elements, differ } => pairs(alloc, elements, differ),
+        Shape::Ranks {
+            elements,
+            is_closed,
+        } => ranks(alloc, elements, is_closed),
     }
 }
