@@ -14,7 +14,7 @@ mod records;
 mod told;
 
 fn name(alloc: Global, bytes: &[u8]) -> Result<Name, Fail> {
-    Ok(Name::make(Vec::from_slice(alloc, bytes)?).ok_or("no name")?)
+    Ok(Name::make(alloc, bytes)?.ok_or("no name")?)
 }
 
 fn text(alloc: Global, bytes: &[u8]) -> Result<Value, Fail> {

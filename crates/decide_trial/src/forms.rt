@@ -21,7 +21,7 @@ pub struct Forms {
 
 /// Checks that there is room.
 fn check_room(arena: &Arena) -> Result<(), AllocError>
-    ensures { OnOk result (length arena.now < 1000000) }
+    ensures { OnOk result (length arena.now < MOST_NODES) }
 {
     if arena.len() < MOST_NODES {
         Ok(())

@@ -5,6 +5,7 @@ ghost use Rattle.std.specs.List.{list_all};
 ghost use Rattle.std.specs.Option.{SomeIff};
 ghost use Rattle.sc_ast.specs.Words.{is_letter, is_name_byte, begins_with_letter, is_name, IsName};
 
+use crate::rooms::Room;
 use sc_lexer::limits::MOST_NAME_BYTES;
 use std::alloc::{AllocError, Global};
 use std::marker::Model;
@@ -13,7 +14,7 @@ use std::marker::Model;
 /// the first of them a letter. Contracts see its bytes.
 #[derive(Debug, Drop)]
 pub struct Name {
-    bytes: Vec<u8>,
+    room: Room,
 }
 
 impl Model for Name {
@@ -23,29 +24,30 @@ impl Model for Name {
 
     ghost use Rattle.sc_ast.specs.Words.{IsName};
 
-    ghost view = { λ name. name.bytes.items };
+    ghost view = { λ name. name.room };
 
-    ghost invariant = { λ name. IsName name.bytes.items };
+    ghost invariant = { λ name. IsName name.room };
 }
 
 impl Name {
     /// The name that the bytes are, or None where they are none.
-    pub fn make(bytes: Vec<u8>) -> Option<Name>
-        ensures { SomeIff result (IsName bytes.items) bytes.items }
+    pub fn make(alloc: Global, bytes: &[u8]) -> Result<Option<Name>, AllocError>
+        ensures { IfOk result (λ made. SomeIff made (IsName bytes.now) bytes.now) }
     {
-        if is_name(bytes.as_slice()) {
-            Some(Name { bytes })
+        Ok(if is_name(bytes) {
+            Some(Name::of(alloc, bytes)?)
         } else {
             None
-        }
+        })
     }
 
     /// The name that the bytes are.
-    pub fn of(bytes: Vec<u8>) -> Name
-        requires { IsName bytes.items }
-        ensures { result ≡ bytes.items }
+    pub fn of(alloc: Global, bytes: &[u8]) -> Result<Name, AllocError>
+        requires { IsName bytes.now }
+        ensures { IfOk result (λ name. name ≡ bytes.now) }
     {
-        Name { bytes }
+        let room = Room::new(alloc, bytes)?;
+        Ok(Name { room })
     }
 
     /// The bytes of the name.
@@ -53,15 +55,14 @@ impl Name {
         ensures bytes { result.now ≡ self.now }
         ensures name { IsName result.now }
     {
-        self.bytes.as_slice()
+        self.room.bytes()
     }
 
     /// An equal name, in memory of its own.
     pub fn copy(&self, alloc: Global) -> Result<Name, AllocError>
         ensures { IfOk result (λ copy. copy ≡ self.now) }
     {
-        let bytes = Vec::from_slice(alloc, self.bytes.as_slice())?;
-        Ok(Name { bytes })
+        Name::of(alloc, self.bytes())
     }
 }
 

@@ -32,7 +32,7 @@ fn names_are_words(rt: HostRuntime) -> Result<(), Fail> {
         (b"e\xcc\x81", false),
     ];
     for (bytes, want) in table {
-        let made = Name::make(Vec::from_slice(rt.alloc(), bytes)?);
+        let made = Name::make(rt.alloc(), bytes)?;
         assert_eq!(rt; made.is_some(), want, "{bytes:?}");
         if let Some(name) = made {
             let copy = name.copy(rt.alloc())?;
@@ -72,8 +72,17 @@ fn texts_are_utf8(rt: HostRuntime) -> Result<(), Fail> {
 #[test]
 fn limits_count_bytes(rt: HostRuntime) -> Result<(), Fail> {
     let alloc = rt.alloc();
-    assert!(rt; Name::make(run(alloc, b'a', 64)?).is_some());
-    assert!(rt; Name::make(run(alloc, b'a', 65)?).is_none());
+    // 14 bytes lie in place, and 15 do not.
+    for (times, want) in [(14, true), (15, true), (64, true), (65, false)] {
+        let bytes = run(alloc, b'a', times)?;
+        let made = Name::make(alloc, bytes.as_slice())?;
+        assert_eq!(rt; made.is_some(), want);
+        if let Some(name) = made {
+            let copy = name.copy(alloc)?;
+            assert_eq!(rt; name.bytes(), bytes.as_slice());
+            assert_eq!(rt; copy.bytes(), bytes.as_slice());
+        }
+    }
     assert!(rt; Txt::make(run(alloc, b'a', 4096)?).is_some());
     assert!(rt; Txt::make(run(alloc, b'a', 4097)?).is_none());
     Ok(())

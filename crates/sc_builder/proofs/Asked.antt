@@ -1,6 +1,6 @@
 -- The formulas of forms, from those of their parts.
-use Rattle.std.proofs.Common.{◌≡◌, ℕ, suc, ◌+◌, ◌≤◌, Bool, true, false, not, refl, sym, ◌∙◌, List, [], ◌∷◌, ◌++◌, ap, subst, arith}
-use Rattle.std.specs.Prelude.{Result, Ok, Err, ◌||◌, if◌then◌else◌, unwrap_or, fold}
+use Rattle.std.proofs.Common.{◌≡◌, ℕ, ◌+◌, ◌≤◌, Bool, true, false, not, refl, sym, ◌∙◌, List, [], ◌∷◌, ◌++◌, ap, arith}
+use Rattle.std.specs.Prelude.{Result, Err, ◌||◌, if◌then◌else◌, fold}
 use Rattle.sc_tree.specs.declared.exprs.CmpOp.{CmpOp}
 use Rattle.sc_schema.specs.declared.trees.TExpr.{TExpr}
 use Rattle.sc_schema.specs.declared.trees.TExpr.TheVariants as ex
@@ -12,20 +12,20 @@ use Rattle.sc_schema.specs.Views.{expr_of, set_of}
 use Rattle.sc_formula.specs.Trees.{Term, Formula, no, both, either}
 use Rattle.sc_formula.specs.Trees as tree
 use Rattle.sc_duty.specs.Sizes.{size}
-use Rattle.sc_duty.specs.Cases.{Condition, Cases, continued, at_ends, of_term, at_terms, of_option, condition_of, is_truth, chosen, atom, constant, and_if, or_if, all_if, any_if, same_condition, same_term, less_term, has_term, end_has, are_equal}
+use Rattle.sc_duty.specs.Cases.{Condition, Cases, continued, at_ends, of_term, at_terms, of_option, condition_of, is_truth, chosen, atom, constant, and_if, same_condition, same_term, has_term, end_has, are_equal}
 use Rattle.sc_duty.specs.Formulas.{Who, record_at, Written, Scene, of_model, cases_of, is_in}
 use Rattle.sc_writer.specs.declared.make_err.MakeErr.{MakeErr}
 use Rattle.sc_writer.specs.declared.make_err.MakeErr.TheVariants.{OutOfMemory}
 use Rattle.sc_writer.specs.declared.writer.Writer.{Writer}
-use Rattle.sc_writer.specs.Made.{IsCause, IsMade, MakesFor, Makes, IsPart}
-use Rattle.sc_writer.proofs.Paying.{cause_more, made_stop}
-use Rattle.sc_writer.proofs.Joining.{later_stop, part_stands, stands_later, size-and_if}
+use Rattle.sc_writer.specs.Made.{IsMade, MakesFor, Makes, IsPart}
+use Rattle.sc_writer.proofs.Paying.{made_stop}
+use Rattle.sc_writer.proofs.Joining.{part_stands, stands_later, size-and_if}
 use Rattle.sc_builder.specs.declared.start.Start.{Start}
 use Rattle.sc_builder.specs.declared.values.End.{End, Truth', Among', Some'}
 use Rattle.sc_builder.specs.declared.values.End.{Term as end_term, Held as end_held, None as end_none}
 use Rattle.sc_builder.specs.Values.{end_data, rest_cost, mapped_formula, flat_formula}
 use Rattle.sc_builder.proofs.Forms.{Eq_is, Iff_is, Less_is, Member_is, Not_is, And_is, Or_is, IfE_is, Sum_set, Less_set, Path_set, MapS_set, FlatS_set, IfS_set, MatchS_set}
-use Rattle.sc_builder.proofs.Walks.{ap2, fuse, rests, ask_done}
+use Rattle.sc_builder.proofs.Walks.{ap2, ask_done}
 
 -- what is asked of a value without choices
 pub end_ends : (c : Start) (above : ℕ) (g : Cases → Formula) (x : End) → at_ends above g (end_data c x) ≡ g (end_data c x)
@@ -141,26 +141,31 @@ module _ (s : Schema) (written : Written) (env : Scene) where
           → constant (not sign) ≡ member_of (set_of whole)
       path_other whole e m is asked = sym (asked (has_term s (value e)) sign above) ∙ ap member_of (sym (ap set_of is ∙ Path_set m e))
 
-      pub if_is : (whole a' a b' b : TSet) (c : TExpr) → whole ≡ st.IfS c a b → a' ≡ a → b' ≡ b
-          → either (both (condition_of s (value c) true above) (is_in s written env (set_of a') who sign above))
-          (both (condition_of s (value c) false above) (is_in s written env (set_of b') who sign above)) ≡ member_of (set_of whole)
-      if_is whole a' a b' b c is p q =
-          ap2 (λ (x y : TSet). either (both (condition_of s (value c) true above) (is_in s written env (set_of x) who sign above))
-          (both (condition_of s (value c) false above) (is_in s written env (set_of y) who sign above))) p q
-          ∙ ap member_of (sym (ap set_of is ∙ IfS_set c a b))
+      pub if_is : (whole a' a b' b : TSet) (c' c : TExpr) → whole ≡ st.IfS c a b → a' ≡ a → b' ≡ b → c' ≡ c
+          → either (both (condition_of s (value c') true above) (is_in s written env (set_of a') who sign above))
+          (both (condition_of s (value c') false above) (is_in s written env (set_of b') who sign above)) ≡ member_of (set_of whole)
+      if_is whole a' a b' b c' c is p q r =
+          ap2 (λ (x y : TSet). either (both (condition_of s (value c') true above) (is_in s written env (set_of x) who sign above))
+          (both (condition_of s (value c') false above) (is_in s written env (set_of y) who sign above))) p q
+          ∙ (ap (λ (e : TExpr). either (both (condition_of s (value e) true above) (is_in s written env (set_of a) who sign above))
+          (both (condition_of s (value e) false above) (is_in s written env (set_of b) who sign above))) r
+          ∙ ap member_of (sym (ap set_of is ∙ IfS_set c a b)))
 
-      pub match_is : (whole a' a c' c : TSet) (e : TExpr) (name : List ℕ) → whole ≡ st.MatchS e a name c → a' ≡ a → c' ≡ c
-          → at_ends above (of_option s (chosen above) (is_in s written env (set_of a') who sign above) (λ x. is_in s written (env ++ x ∷ []) (set_of c') who sign above)) (continued (λ x. x) (value e))
+      pub match_is : (whole a' a c' c : TSet) (e' e : TExpr) (name : List ℕ) → whole ≡ st.MatchS e a name c → a' ≡ a → c' ≡ c → e' ≡ e
+          → at_ends above (of_option s (chosen above) (is_in s written env (set_of a') who sign above) (λ x. is_in s written (env ++ x ∷ []) (set_of c') who sign above)) (continued (λ x. x) (value e'))
           ≡ member_of (set_of whole)
-      match_is whole a' a c' c e name is p q =
-          ask_done above (of_option s (chosen above) (is_in s written env (set_of a') who sign above) (λ x. is_in s written (env ++ x ∷ []) (set_of c') who sign above)) (value e)
-          ∙ (ap2 (λ (i j : TSet). at_ends above (of_option s (chosen above) (is_in s written env (set_of i) who sign above) (λ x. is_in s written (env ++ x ∷ []) (set_of j) who sign above)) (value e)) p q
-          ∙ ap member_of (sym (ap set_of is ∙ MatchS_set e a name c)))
+      match_is whole a' a c' c e' e name is p q r =
+          ask_done above (of_option s (chosen above) (is_in s written env (set_of a') who sign above) (λ x. is_in s written (env ++ x ∷ []) (set_of c') who sign above)) (value e')
+          ∙ (ap2 (λ (i j : TSet). at_ends above (of_option s (chosen above) (is_in s written env (set_of i) who sign above) (λ x. is_in s written (env ++ x ∷ []) (set_of j) who sign above)) (value e')) p q
+          ∙ (ap (λ (i : TExpr). at_ends above (of_option s (chosen above) (is_in s written env (set_of a) who sign above) (λ x. is_in s written (env ++ x ∷ []) (set_of c) who sign above)) (value i)) r
+          ∙ ap member_of (sym (ap set_of is ∙ MatchS_set e a name c))))
 
-      pub mapped_is : (whole set' set : TSet) (n : ℕ) (name : List ℕ) (m : ℕ) (e : TExpr) → whole ≡ st.MapS set n name m e → set' ≡ set
-          → mapped_formula s written env (set_of set') n m (expr_of e) who sign above ≡ member_of (set_of whole)
-      mapped_is whole set' set n name m e is p =
-          ap (λ (x : TSet). mapped_formula s written env (set_of x) n m (expr_of e) who sign above) p ∙ ap member_of (sym (ap set_of is ∙ MapS_set set n name m e))
+      pub mapped_is : (whole set' set : TSet) (n : ℕ) (name : List ℕ) (m : ℕ) (e' e : TExpr) → whole ≡ st.MapS set n name m e → set' ≡ set → e' ≡ e
+          → mapped_formula s written env (set_of set') n m (expr_of e') who sign above ≡ member_of (set_of whole)
+      mapped_is whole set' set n name m e' e is p q =
+          ap (λ (x : TSet). mapped_formula s written env (set_of x) n m (expr_of e') who sign above) p
+          ∙ (ap (λ (x : TExpr). mapped_formula s written env (set_of set) n m (expr_of x) who sign above) q
+          ∙ ap member_of (sym (ap set_of is ∙ MapS_set set n name m e)))
 
       pub flat_is : (whole set' set body' body : TSet) (n : ℕ) (name : List ℕ) → whole ≡ st.FlatS set n name body → set' ≡ set → body' ≡ body
           → flat_formula s written env (set_of set') n (set_of body') who sign above ≡ member_of (set_of whole)

@@ -63,15 +63,15 @@ pub(crate) fn count_set(set: &TSet, before: usize) -> Result<usize, AllocError>
         TSet::Path(_, e) => count_expr(e, before),
         TSet::MapS(of, _, _, _, e) => {
             let count = count_set(of.get(), before)?;
-            count_expr(e, count)
+            count_expr(e.get(), count)
         }
         TSet::FlatS(of, _, _, body) => count_set(body.get(), count_set(of.get(), before)?),
         TSet::IfS(c, a, b) => {
-            let count = count_expr(c, before)?;
+            let count = count_expr(c.get(), before)?;
             count_set(b.get(), count_set(a.get(), count)?)
         }
         TSet::MatchS(of, a, _, b) => {
-            let count = count_expr(of, before)?;
+            let count = count_expr(of.get(), before)?;
             count_set(b.get(), count_set(a.get(), count)?)
         }
     }

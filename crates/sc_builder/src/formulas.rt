@@ -8,7 +8,7 @@ ghost use Rattle.sc_formula.specs.Trees as tree;
 ghost use Rattle.sc_duty.specs.Cases.{at_ends, of_term, of_option, condition_of, continued};
 ghost use Rattle.sc_duty.specs.Cases.{end_holds, end_has, compared, are_equal, less_term, and_if};
 ghost use Rattle.sc_duty.specs.Cases.{all_if, any_if, none, choice, chosen, some_of};
-ghost use Rattle.sc_duty.specs.Cases.{same_condition};
+ghost use Rattle.sc_duty.specs.Cases.{same_condition, at_term};
 ghost use Rattle.sc_duty.specs.Structures.{sort_of};
 ghost use Rattle.sc_duty.specs.Formulas.{cases_of, field_cases, is_in, items_in};
 ghost use Rattle.sc_duty.specs.Formulas.{filters_at, nothing_written, passes};
@@ -19,6 +19,9 @@ ghost use Rattle.sc_builder.specs.Values.{who_data, steps_data, goal_data, term_
 ghost use Rattle.sc_builder.specs.Values.{part_data, rest_cost, mapped_formula, flat_formula};
 
 use crate::added::{init_at, upto_of, value_at};
+use crate::chains::{
+    Chain, LONG_ROW, LONG_STEPS, SHORT_ROW, SHORT_STEPS, Stop, follow, past_row, takes_field,
+};
 use crate::reaches::{end_cost, reach, taken};
 use crate::start::Start;
 use crate::truths::{is_truth_at, is_truth_end};
@@ -378,7 +381,13 @@ fn field(
     let end = End::Term(&*t);
     let scene = Scene::Inner(&none, &end);
     match init {
-        TInit::Plain(e) => walk(w, start, &scene, e, &*steps, &*goal, above, fuel),
+        TInit::Plain(e) => {
+            if takes_field(e) {
+                chained(w, start, before, e, &*t, &*steps, &*goal, above, fuel)
+            } else {
+                walk(w, start, &scene, e, &*steps, &*goal, above, fuel)
+            }
+        }
         TInit::OfSet(n, set) => {
             ask_end(
                 w,
@@ -389,6 +398,78 @@ fn field(
                 above,
                 fuel,
             )
+        }
+    }
+}
+
+/// Asks of each end of an expression over one variable, whose value is a term, after the steps. A
+/// chain of fields is gone along at once.
+#[cycle(formulas)]
+fn chained(
+    w: &mut Writer,
+    start: &Start<'_>,
+    upto: usize,
+    e: &TExpr,
+    t: &Term<'_>,
+    steps: &Steps<'_>,
+    goal: &Goal<'_>,
+    above: u32,
+    fuel: u32,
+) -> Result<u32, MakeErr>
+    ensures { let c = start.now in let s = schema_in c in Makes w.old result w.new
+        (asked_of c above steps.now goal.now
+        (cases_of s (written_upto c upto) (at_term (term_data t.now) ∷ []) (expr_of e.now))) }
+{
+    let fuel = past_row(fuel, SHORT_STEPS)?;
+    let mut row = [0; SHORT_ROW];
+    let mut chain = Chain::new();
+    match follow(start, upto, &*e, &mut chain, &mut row, fuel) {
+        Ok(()) => {
+            let t = Term::Chain(chain.functions_in(&row), &*t);
+            let end = chain.end_at(start, &t);
+            ask_end(w, start, &end, &*steps, &*goal, above, fuel)
+        }
+        Err(Stop::Full) => { chained_far(w, start, upto, &*e, &*t, &*steps, &*goal, above, fuel) }
+        Err(Stop::Other) => {
+            let none = Scene::Start(upto);
+            let end = End::Term(&*t);
+            let scene = Scene::Inner(&none, &end);
+            walk(w, start, &scene, &*e, &*steps, &*goal, above, fuel)
+        }
+    }
+}
+
+/// The same, where a chain has a long row.
+#[cycle(formulas)]
+fn chained_far(
+    w: &mut Writer,
+    start: &Start<'_>,
+    upto: usize,
+    e: &TExpr,
+    t: &Term<'_>,
+    steps: &Steps<'_>,
+    goal: &Goal<'_>,
+    above: u32,
+    fuel: u32,
+) -> Result<u32, MakeErr>
+    ensures { let c = start.now in let s = schema_in c in Makes w.old result w.new
+        (asked_of c above steps.now goal.now
+        (cases_of s (written_upto c upto) (at_term (term_data t.now) ∷ []) (expr_of e.now))) }
+{
+    let fuel = past_row(fuel, LONG_STEPS)?;
+    let mut row = [0; LONG_ROW];
+    let mut chain = Chain::new();
+    match follow(start, upto, &*e, &mut chain, &mut row, fuel) {
+        Ok(()) => {
+            let t = Term::Chain(chain.functions_in(&row), &*t);
+            let end = chain.end_at(start, &t);
+            ask_end(w, start, &end, &*steps, &*goal, above, fuel)
+        }
+        Err(_) => {
+            let none = Scene::Start(upto);
+            let end = End::Term(&*t);
+            let scene = Scene::Inner(&none, &end);
+            walk(w, start, &scene, &*e, &*steps, &*goal, above, fuel)
         }
     }
 }
@@ -1010,7 +1091,7 @@ fn member(
                 *n,
                 sort,
                 *m,
-                e,
+                e.get(),
                 &*who,
                 sign,
                 above,
@@ -1034,7 +1115,7 @@ fn member(
             )
         }
         TSet::IfS(c, a, b) => {
-            let c = Source::Expr(&*scene, c);
+            let c = Source::Expr(&*scene, c.get());
             let then = Part::Member(&*scene, a.get(), &*who, sign);
             let other = Part::Member(&*scene, b.get(), &*who, sign);
             let yes = Part::Holds(&c, true);
@@ -1043,7 +1124,16 @@ fn member(
         }
         TSet::MatchS(of, a, _, c) => {
             let goal = Goal::Chosen(sign, &*scene, a.get(), c.get(), &*who);
-            walk(w, start, &*scene, of, &Steps::Done, &goal, above, fuel)
+            walk(
+                w,
+                start,
+                &*scene,
+                of.get(),
+                &Steps::Done,
+                &goal,
+                above,
+                fuel,
+            )
         }
     }
 }

@@ -169,7 +169,7 @@ fn size_upto(
     init: &TInit,
 ) -> Result<u64, AllocError>
     ensures { let c = start.now in IfOk result (λ size. size ≡ min (sizes.init_size_over
-        (schema_in c) (written_upto c upto) ty (init_of init.now)) 1000000) }
+        (schema_in c) (written_upto c upto) ty (init_of init.now)) sizes.most_size) }
 {
     let mut w = Writer {
         arena: Arena::new(alloc)?,

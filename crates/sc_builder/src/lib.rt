@@ -8,6 +8,7 @@
 //! | `start` | `Start`, the schema of start databases with its numbers |
 //! | `values` | ends, the values of variables, and what is asked |
 //! | `added` | which added field is written out |
+//! | `chains` | expressions that are chains of fields |
 //! | `truths` | whether a value is a truth value |
 //! | `counts` | how many uses of fields there are |
 //! | `places` | where a use of a field stands |
@@ -18,6 +19,7 @@
 #![tactic(auto)]
 
 mod added;
+mod chains;
 mod counts;
 mod formulas;
 mod inits;

@@ -186,10 +186,10 @@ fn set_place(set: &TSet, number: usize) -> Result<Place<'_>, AllocError>
         TSet::Less(a, b) => two_sets(a.get(), b.get(), number),
         TSet::Find(_, filters) => filters_place(filters.as_slice(), number),
         TSet::Path(_, e) => Ok(Place::Within(Use::InExpr(e, number))),
-        TSet::MapS(of, n, _, _, e) => mapped_place(of.get(), *n, e, number),
+        TSet::MapS(of, n, _, _, e) => mapped_place(of.get(), *n, e.get(), number),
         TSet::FlatS(of, n, _, body) => flat_place(of.get(), *n, body.get(), number),
-        TSet::IfS(c, a, b) => if_set_place(c, a.get(), b.get(), number),
-        TSet::MatchS(of, a, _, c) => match_set_place(of, a.get(), c.get(), number),
+        TSet::IfS(c, a, b) => if_set_place(c.get(), a.get(), b.get(), number),
+        TSet::MatchS(of, a, _, c) => match_set_place(of.get(), a.get(), c.get(), number),
     }
 }
 

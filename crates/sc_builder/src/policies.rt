@@ -60,7 +60,7 @@ fn size_upto(
     policy: &TPolicy,
 ) -> Result<u64, AllocError>
     ensures { let c = start.now in IfOk result (λ size. size ≡ min (sizes.policy_size_over
-        (schema_in c) (written_upto c upto) (policy_of policy.now)) 1000000) }
+        (schema_in c) (written_upto c upto) (policy_of policy.now)) sizes.most_size) }
 {
     let mut w = Writer {
         arena: Arena::new(alloc)?,

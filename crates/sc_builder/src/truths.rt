@@ -2,12 +2,15 @@
 
 ghost use Rattle.std.specs.Prelude.{◌≡◌, ◌∷◌, ◌++◌, [], IfOk};
 ghost use Rattle.sc_schema.specs.Views.{expr_of};
-ghost use Rattle.sc_duty.specs.Cases.{is_truth, continued, of_term, of_option, choice, none};
+ghost use Rattle.sc_duty.specs.Cases.{is_truth, continued, at_term, of_term, of_option, choice, none};
 ghost use Rattle.sc_duty.specs.Formulas.{cases_of, field_cases};
 ghost use Rattle.sc_writer.specs.Terms.{term_data};
 ghost use Rattle.sc_builder.specs.Values.{schema_in, written_in, written_upto, scene_data, end_data, source_data, steps_data};
 
 use crate::added::{init_at, upto_of, value_at};
+use crate::chains::{
+    Chain, LONG_ROW, LONG_STEPS, SHORT_ROW, SHORT_STEPS, Stop, follow, past_row, takes_field,
+};
 use crate::start::Start;
 use crate::values::{End, Scene, Source, Steps, deeper};
 use sc_schema::{FieldNo, ModelNo, TExpr, TInit, TTy};
@@ -207,7 +210,75 @@ fn first_field(
     let end = End::Term(&*t);
     let scene = Scene::Inner(&none, &end);
     match init {
-        TInit::Plain(e) => first(start, &scene, &*e, &*steps, fuel),
+        TInit::Plain(e) => {
+            if takes_field(e) {
+                first_chained(start, before, e, &*t, &*steps, fuel)
+            } else {
+                first(start, &scene, e, &*steps, fuel)
+            }
+        }
         TInit::OfSet(n, set) => first_end(start, &End::Among(&scene, *n, set), &*steps, fuel),
+    }
+}
+
+/// Whether the first end of an expression over one variable, whose value is a term, after the
+/// steps, is a truth value. A chain of fields is gone along at once.
+#[cycle(first)]
+fn first_chained(
+    start: &Start<'_>,
+    upto: usize,
+    e: &TExpr,
+    t: &Term<'_>,
+    steps: &Steps<'_>,
+    fuel: u32,
+) -> Result<bool, AllocError>
+    ensures { let c = start.now in let s = schema_in c in
+        IfOk result (λ b. b ≡ is_truth s (continued (steps_data c steps.now)
+        (cases_of s (written_upto c upto) (at_term (term_data t.now) ∷ []) (expr_of e.now)))) }
+{
+    let fuel = past_row(fuel, SHORT_STEPS)?;
+    let mut row = [0; SHORT_ROW];
+    let mut chain = Chain::new();
+    match follow(start, upto, &*e, &mut chain, &mut row, fuel) {
+        Ok(()) => {
+            let t = Term::Chain(chain.functions_in(&row), &*t);
+            first_end(start, &chain.end_at(start, &t), &*steps, fuel)
+        }
+        Err(Stop::Full) => first_chained_far(start, upto, &*e, &*t, &*steps, fuel),
+        Err(Stop::Other) => {
+            let none = Scene::Start(upto);
+            let end = End::Term(&*t);
+            first(start, &Scene::Inner(&none, &end), &*e, &*steps, fuel)
+        }
+    }
+}
+
+/// The same, where a chain has a long row.
+#[cycle(first)]
+fn first_chained_far(
+    start: &Start<'_>,
+    upto: usize,
+    e: &TExpr,
+    t: &Term<'_>,
+    steps: &Steps<'_>,
+    fuel: u32,
+) -> Result<bool, AllocError>
+    ensures { let c = start.now in let s = schema_in c in
+        IfOk result (λ b. b ≡ is_truth s (continued (steps_data c steps.now)
+        (cases_of s (written_upto c upto) (at_term (term_data t.now) ∷ []) (expr_of e.now)))) }
+{
+    let fuel = past_row(fuel, LONG_STEPS)?;
+    let mut row = [0; LONG_ROW];
+    let mut chain = Chain::new();
+    match follow(start, upto, &*e, &mut chain, &mut row, fuel) {
+        Ok(()) => {
+            let t = Term::Chain(chain.functions_in(&row), &*t);
+            first_end(start, &chain.end_at(start, &t), &*steps, fuel)
+        }
+        Err(_) => {
+            let none = Scene::Start(upto);
+            let end = End::Term(&*t);
+            first(start, &Scene::Inner(&none, &end), &*e, &*steps, fuel)
+        }
     }
 }

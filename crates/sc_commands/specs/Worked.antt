@@ -72,7 +72,7 @@ note = at_place (codes "Note") 0
 abbrev pub add_number : List ℕ → written.Command
 add_number name =
     w.AddField user (field_def (at_place (codes "x") 15) int nobody) (at_place (codes "u") 51)
-    (i.Plain (e.Get (e.Var (at_place (codes "u") 56) 56) (at_place name 58) 56)) 0
+    (i.Plain (e.Get 56 (e.Var 56 (at_place (codes "u") 56)) (at_place name 58))) 0
 
 abbrev pub run : written.Command → Checked Command
 run c = resolved app c
@@ -113,7 +113,7 @@ pub record WorkedCommands : Type 0 where
   pub seen_by_policies :
       run
       (w.AddField user (field_def (at_place (codes "x") 15) int (only_field (at_place (codes "u") 40) (at_place (codes "x") 48) 46)) (at_place (codes "u") 60)
-      (i.Plain (e.Num (pos 3) 64)) 0)
+      (i.Plain (e.Num 64 (pos 3))) 0)
       ≡ Err (WrongType 46)
   -- The second command is bad; the third is not looked at.
   pub second_is_bad :

@@ -79,13 +79,13 @@ fn set_uses(set: &TSet, thing: Thing) -> bool
             thing.is_model(*m) || filters_use(filters.as_slice(), *m, thing)
         }
         TSet::Path(_, e) => expr_uses(e, thing),
-        TSet::MapS(of, _, _, _, e) => set_uses(of.get(), thing) || expr_uses(e, thing),
+        TSet::MapS(of, _, _, _, e) => set_uses(of.get(), thing) || expr_uses(e.get(), thing),
         TSet::FlatS(of, _, _, body) => set_uses(of.get(), thing) || set_uses(body.get(), thing),
         TSet::IfS(c, a, b) => {
-            expr_uses(c, thing) || set_uses(a.get(), thing) || set_uses(b.get(), thing)
+            expr_uses(c.get(), thing) || set_uses(a.get(), thing) || set_uses(b.get(), thing)
         }
         TSet::MatchS(of, a, _, b) => {
-            expr_uses(of, thing) || set_uses(a.get(), thing) || set_uses(b.get(), thing)
+            expr_uses(of.get(), thing) || set_uses(a.get(), thing) || set_uses(b.get(), thing)
         }
     }
 }

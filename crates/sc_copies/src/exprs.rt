@@ -3,9 +3,26 @@
 ghost use Rattle.std.specs.Prelude.{◌≡◌, IfOk};
 
 use crate::copied::Copied;
-use sc_tree::{Expr, Filter, Item, SetExpr};
+use sc_ast::Txt;
+use sc_tree::{Expr, Filter, Item, Named, SetExpr};
 use sqlite_items::{Boxed, Items};
 use std::alloc::{AllocError, Global};
+
+/// An equal text in a box.
+fn boxed_text(alloc: Global, text: &Txt) -> Result<Boxed<Txt>, AllocError>
+    ensures { IfOk result (λ copy. copy ≡ text.now) }
+{
+    let copy = text.copy(alloc)?;
+    Boxed::new(alloc, copy)
+}
+
+/// An equal name in a box.
+fn boxed_name(alloc: Global, name: &Named) -> Result<Boxed<Named>, AllocError>
+    ensures { IfOk result (λ copy. copy ≡ name.now) }
+{
+    let copy = name.copy(alloc)?;
+    Boxed::new(alloc, copy)
+}
 
 /// An equal expression in a box.
 #[cycle(copies)]
@@ -31,62 +48,64 @@ fn copy_expr(alloc: Global, e: &Expr) -> Result<Expr, AllocError>
     ensures { IfOk result (λ copy. copy ≡ e.now) }
 {
     match e {
-        Expr::Flag(value, at) => Ok(Expr::Flag(*value, *at)),
-        Expr::Num(value, at) => Ok(Expr::Num(*value, *at)),
-        Expr::Str(text, at) => {
-            let text = text.copy(alloc)?;
-            Ok(Expr::Str(text, *at))
+        Expr::Flag(at, value) => Ok(Expr::Flag(*at, *value)),
+        Expr::Num(at, value) => Ok(Expr::Num(*at, *value)),
+        Expr::Str(at, text) => {
+            let text = boxed_text(alloc, text.get())?;
+            Ok(Expr::Str(*at, text))
         }
-        Expr::Var(name, at) => {
+        Expr::Var(at, name) => {
             let name = name.copy(alloc)?;
-            Ok(Expr::Var(name, *at))
+            Ok(Expr::Var(*at, name))
         }
         Expr::NoneLit(at) => Ok(Expr::NoneLit(*at)),
-        Expr::SomeLit(inner, at) => {
+        Expr::SomeLit(at, inner) => {
             let inner = boxed_expr(alloc, inner.get())?;
-            Ok(Expr::SomeLit(inner, *at))
+            Ok(Expr::SomeLit(*at, inner))
         }
-        Expr::Get(of, field, at) => {
-            let field = field.copy(alloc)?;
+        Expr::Get(at, of, field) => {
+            let field = boxed_name(alloc, field.get())?;
             let of = boxed_expr(alloc, of.get())?;
-            Ok(Expr::Get(of, field, *at))
+            Ok(Expr::Get(*at, of, field))
         }
-        Expr::Cmp(op, left, right, at) => {
+        Expr::Cmp(at, op, left, right) => {
             let left = boxed_expr(alloc, left.get())?;
             let right = boxed_expr(alloc, right.get())?;
-            Ok(Expr::Cmp(*op, left, right, *at))
+            Ok(Expr::Cmp(*at, *op, left, right))
         }
-        Expr::Member(of, set, at) => {
+        Expr::Member(at, of, set) => {
             let of = boxed_expr(alloc, of.get())?;
             let set = boxed_set(alloc, set.get())?;
-            Ok(Expr::Member(of, set, *at))
+            Ok(Expr::Member(*at, of, set))
         }
-        Expr::Not(inner, at) => {
+        Expr::Not(at, inner) => {
             let inner = boxed_expr(alloc, inner.get())?;
-            Ok(Expr::Not(inner, *at))
+            Ok(Expr::Not(*at, inner))
         }
-        Expr::And(left, right, at) => {
+        Expr::And(at, left, right) => {
             let left = boxed_expr(alloc, left.get())?;
             let right = boxed_expr(alloc, right.get())?;
-            Ok(Expr::And(left, right, *at))
+            Ok(Expr::And(*at, left, right))
         }
-        Expr::Or(left, right, at) => {
+        Expr::Or(at, left, right) => {
             let left = boxed_expr(alloc, left.get())?;
             let right = boxed_expr(alloc, right.get())?;
-            Ok(Expr::Or(left, right, *at))
+            Ok(Expr::Or(*at, left, right))
         }
-        Expr::IfE(test, one, other, at) => {
+        Expr::IfE(at, test, one, other) => {
             let test = boxed_expr(alloc, test.get())?;
             let one = boxed_expr(alloc, one.get())?;
             let other = boxed_expr(alloc, other.get())?;
-            Ok(Expr::IfE(test, one, other, *at))
+            Ok(Expr::IfE(*at, test, one, other))
         }
-        Expr::MatchE(of, none, name, some, at) => {
+        Expr::MatchE(at, of, none, some) => {
+            let (name, each) = some.get();
             let name = name.copy(alloc)?;
             let of = boxed_expr(alloc, of.get())?;
             let none = boxed_expr(alloc, none.get())?;
-            let some = boxed_expr(alloc, some.get())?;
-            Ok(Expr::MatchE(of, none, name, some, *at))
+            let each = copy_expr(alloc, each)?;
+            let some = Boxed::new(alloc, (name, each))?;
+            Ok(Expr::MatchE(*at, of, none, some))
         }
     }
 }
@@ -154,55 +173,55 @@ fn copy_set(alloc: Global, set: &SetExpr) -> Result<SetExpr, AllocError>
     ensures { IfOk result (λ copy. copy ≡ set.now) }
 {
     match set {
-        SetExpr::Everyone(word, at) => Ok(SetExpr::Everyone(*word, *at)),
+        SetExpr::Everyone(at, word) => Ok(SetExpr::Everyone(*at, *word)),
         SetExpr::Nobody(at) => Ok(SetExpr::Nobody(*at)),
-        SetExpr::List(items, at) => {
+        SetExpr::List(at, items) => {
             let items = copy_items(alloc, items.as_slice())?;
-            Ok(SetExpr::List(items, *at))
+            Ok(SetExpr::List(*at, items))
         }
-        SetExpr::Sum(left, right, at) => {
+        SetExpr::Sum(at, left, right) => {
             let left = boxed_set(alloc, left.get())?;
             let right = boxed_set(alloc, right.get())?;
-            Ok(SetExpr::Sum(left, right, *at))
+            Ok(SetExpr::Sum(*at, left, right))
         }
-        SetExpr::Less(left, right, at) => {
+        SetExpr::Less(at, left, right) => {
             let left = boxed_set(alloc, left.get())?;
             let right = boxed_set(alloc, right.get())?;
-            Ok(SetExpr::Less(left, right, *at))
+            Ok(SetExpr::Less(*at, left, right))
         }
-        SetExpr::Find(model, filters, at) => {
-            let model = model.copy(alloc)?;
+        SetExpr::Find(at, model, filters) => {
+            let model = boxed_name(alloc, model.get())?;
             let filters = copy_filters(alloc, filters.as_slice())?;
-            Ok(SetExpr::Find(model, filters, *at))
+            Ok(SetExpr::Find(*at, model, filters))
         }
-        SetExpr::Path(path, at) => {
+        SetExpr::Path(at, path) => {
             let path = copy_expr(alloc, path)?;
-            Ok(SetExpr::Path(path, *at))
+            Ok(SetExpr::Path(*at, path))
         }
-        SetExpr::MapS(of, name, each, at) => {
-            let name = name.copy(alloc)?;
+        SetExpr::MapS(at, of, name, each) => {
+            let name = boxed_name(alloc, name.get())?;
             let of = boxed_set(alloc, of.get())?;
-            let each = copy_expr(alloc, each)?;
-            Ok(SetExpr::MapS(of, name, each, *at))
+            let each = boxed_expr(alloc, each.get())?;
+            Ok(SetExpr::MapS(*at, of, name, each))
         }
-        SetExpr::FlatS(of, name, each, at) => {
-            let name = name.copy(alloc)?;
+        SetExpr::FlatS(at, of, name, each) => {
+            let name = boxed_name(alloc, name.get())?;
             let of = boxed_set(alloc, of.get())?;
             let each = boxed_set(alloc, each.get())?;
-            Ok(SetExpr::FlatS(of, name, each, *at))
+            Ok(SetExpr::FlatS(*at, of, name, each))
         }
-        SetExpr::IfS(test, one, other, at) => {
+        SetExpr::IfS(at, test, one, other) => {
             let one = boxed_set(alloc, one.get())?;
             let other = boxed_set(alloc, other.get())?;
-            let test = copy_expr(alloc, test)?;
-            Ok(SetExpr::IfS(test, one, other, *at))
+            let test = boxed_expr(alloc, test.get())?;
+            Ok(SetExpr::IfS(*at, test, one, other))
         }
-        SetExpr::MatchS(of, none, name, some, at) => {
-            let name = name.copy(alloc)?;
+        SetExpr::MatchS(at, of, none, name, some) => {
+            let name = boxed_name(alloc, name.get())?;
             let none = boxed_set(alloc, none.get())?;
             let some = boxed_set(alloc, some.get())?;
-            let of = copy_expr(alloc, of)?;
-            Ok(SetExpr::MatchS(of, none, name, some, *at))
+            let of = boxed_expr(alloc, of.get())?;
+            Ok(SetExpr::MatchS(*at, of, none, name, some))
         }
     }
 }

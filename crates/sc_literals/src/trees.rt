@@ -59,14 +59,14 @@ fn read_set(set: &TSet)
         TSet::Path(_, e) => read_expr(e),
         TSet::MapS(of, _, _, _, e) => {
             read_set(of.get());
-            read_expr(e);
+            read_expr(e.get());
         }
         TSet::FlatS(of, _, _, body) => {
             read_set(of.get());
             read_set(body.get());
         }
         TSet::IfS(first, a, b) | TSet::MatchS(first, a, _, b) => {
-            read_expr(first);
+            read_expr(first.get());
             read_set(a.get());
             read_set(b.get());
         }

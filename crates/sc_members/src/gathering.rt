@@ -249,7 +249,7 @@ pub(crate) fn gather(
         TSet::Path(m, e) => held_ids(alloc, database, e, env, *m),
         TSet::MapS(source, n, _, m, e) => {
             let sources = ids_within(alloc, database, source.get(), env, *n)?;
-            let ys = images(alloc, database, e, env, sources.as_slice())?;
+            let ys = images(alloc, database, e.get(), env, sources.as_slice())?;
             records(alloc, *m, ys.as_slice())
         }
         TSet::FlatS(source, n, _, body) => {
@@ -257,13 +257,13 @@ pub(crate) fn gather(
             gather_at_each(alloc, database, body.get(), env, sources.as_slice())
         }
         TSet::IfS(c, a, b) => {
-            if truth_at(alloc, database, c, env)? {
+            if truth_at(alloc, database, c.get(), env)? {
                 gather(alloc, database, a.get(), env)
             } else {
                 gather(alloc, database, b.get(), env)
             }
         }
-        TSet::MatchS(of, a, _, c) => match taken_apart(alloc, database, of, env)? {
+        TSet::MatchS(of, a, _, c) => match taken_apart(alloc, database, of.get(), env)? {
             Some(inner) => gather(alloc, database, c.get(), inner.as_slice()),
             None => gather(alloc, database, a.get(), env),
         },

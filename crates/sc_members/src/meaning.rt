@@ -253,21 +253,21 @@ pub(crate) fn holds(
         }
         TSet::MapS(source, n, _, m, e) => {
             let sources = ids_within(alloc, database, source.get(), env, *n)?;
-            maps_to(alloc, database, e, env, sources.as_slice(), *m, who)
+            maps_to(alloc, database, e.get(), env, sources.as_slice(), *m, who)
         }
         TSet::FlatS(source, n, _, body) => {
             let sources = ids_within(alloc, database, source.get(), env, *n)?;
             holds_at(alloc, database, body.get(), env, sources.as_slice(), who)
         }
         TSet::IfS(c, a, b) => {
-            if truth_at(alloc, database, c, env)? {
+            if truth_at(alloc, database, c.get(), env)? {
                 holds(alloc, database, a.get(), env, who)
             } else {
                 holds(alloc, database, b.get(), env, who)
             }
         }
         TSet::MatchS(of, a, _, c) => {
-            let of = value(alloc, database, of, env)?;
+            let of = value(alloc, database, of.get(), env)?;
             match content(of.get()) {
                 Some(inner) => {
                     let env = extended(alloc, env, inner)?;

@@ -183,7 +183,7 @@ pub(crate) fn touch_set(
         TSet::MapS(source, n, _, _, e) => {
             touch_set(alloc, database, source.get(), env, found)?;
             let sources = ids_within(alloc, database, source.get(), env, *n)?;
-            touch_at_each(alloc, database, e, env, sources.as_slice(), found)
+            touch_at_each(alloc, database, e.get(), env, sources.as_slice(), found)
         }
         TSet::FlatS(source, n, _, body) => {
             touch_set(alloc, database, source.get(), env, found)?;
@@ -191,6 +191,7 @@ pub(crate) fn touch_set(
             touch_set_at_each(alloc, database, body.get(), env, sources.as_slice(), found)
         }
         TSet::IfS(c, a, b) => {
+            let c = c.get();
             touch(alloc, database, c, env, found)?;
             if truth_at(alloc, database, c, env)? {
                 touch_set(alloc, database, a.get(), env, found)
@@ -199,6 +200,7 @@ pub(crate) fn touch_set(
             }
         }
         TSet::MatchS(of, a, _, c) => {
+            let of = of.get();
             touch(alloc, database, of, env, found)?;
             match taken_apart(alloc, database, of, env)? {
                 Some(inner) => touch_set(alloc, database, c.get(), inner.as_slice(), found),

@@ -110,19 +110,19 @@ fn add_set(uses: &mut Vec<Use>, set: &TSet) -> Result<(), AllocError>
         TSet::Path(_, e) => add_expr(uses, e),
         TSet::MapS(of, _, _, _, e) => {
             add_set(uses, of.get())?;
-            add_expr(uses, e)
+            add_expr(uses, e.get())
         }
         TSet::FlatS(of, _, _, body) => {
             add_set(uses, of.get())?;
             add_set(uses, body.get())
         }
         TSet::IfS(c, a, b) => {
-            add_expr(uses, c)?;
+            add_expr(uses, c.get())?;
             add_set(uses, a.get())?;
             add_set(uses, b.get())
         }
         TSet::MatchS(of, a, _, b) => {
-            add_expr(uses, of)?;
+            add_expr(uses, of.get())?;
             add_set(uses, a.get())?;
             add_set(uses, b.get())
         }

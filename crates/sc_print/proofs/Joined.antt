@@ -19,56 +19,56 @@ pub text-append : (a b : List Mark) → text_of_marks (a ++ b) ≡ text_of_marks
 text-append [] b = refl
 text-append (m ∷ a) b = ap (λ (z : List ℕ). mark_bytes m ++ z) (text-append a b) ∙ sym (append_assoc (mark_bytes m) (text_of_marks a) (text_of_marks b))
 
-pub SomeLit_is : (a : Expr) (at : ℕ) → spelled_expr (e.SomeLit a at) ≡ expr_spelling (Expr-F.SomeLit (spelled_expr a) at)
-SomeLit_is a at = ap spelled_expr (sym (e.rolls-SomeLit a at)) ∙ fold-roll-Expr Spelling (List Mark) Spelling (List Mark) expr_spelling item_spelling set_spelling filter_spelling (Expr-F.SomeLit a at)
+pub SomeLit_is : (a : Expr) (at : ℕ) → spelled_expr (e.SomeLit at a) ≡ expr_spelling (Expr-F.SomeLit at (spelled_expr a))
+SomeLit_is a at = ap spelled_expr (sym (e.rolls-SomeLit at a)) ∙ fold-roll-Expr Spelling (List Mark) Spelling (List Mark) expr_spelling item_spelling set_spelling filter_spelling (Expr-F.SomeLit at a)
 
-pub Get_is : (a : Expr) (f : Named) (at : ℕ) → spelled_expr (e.Get a f at) ≡ expr_spelling (Expr-F.Get (spelled_expr a) f at)
-Get_is a f at = ap spelled_expr (sym (e.rolls-Get a f at)) ∙ fold-roll-Expr Spelling (List Mark) Spelling (List Mark) expr_spelling item_spelling set_spelling filter_spelling (Expr-F.Get a f at)
+pub Get_is : (a : Expr) (f : Named) (at : ℕ) → spelled_expr (e.Get at a f) ≡ expr_spelling (Expr-F.Get at (spelled_expr a) f)
+Get_is a f at = ap spelled_expr (sym (e.rolls-Get at a f)) ∙ fold-roll-Expr Spelling (List Mark) Spelling (List Mark) expr_spelling item_spelling set_spelling filter_spelling (Expr-F.Get at a f)
 
-pub Cmp_is : (op : CmpOp) (a b : Expr) (at : ℕ) → spelled_expr (e.Cmp op a b at) ≡ expr_spelling (Expr-F.Cmp op (spelled_expr a) (spelled_expr b) at)
-Cmp_is op a b at = ap spelled_expr (sym (e.rolls-Cmp op a b at)) ∙ fold-roll-Expr Spelling (List Mark) Spelling (List Mark) expr_spelling item_spelling set_spelling filter_spelling (Expr-F.Cmp op a b at)
+pub Cmp_is : (op : CmpOp) (a b : Expr) (at : ℕ) → spelled_expr (e.Cmp at op a b) ≡ expr_spelling (Expr-F.Cmp at op (spelled_expr a) (spelled_expr b))
+Cmp_is op a b at = ap spelled_expr (sym (e.rolls-Cmp at op a b)) ∙ fold-roll-Expr Spelling (List Mark) Spelling (List Mark) expr_spelling item_spelling set_spelling filter_spelling (Expr-F.Cmp at op a b)
 
-pub Member_is : (a : Expr) (s : SetExpr) (at : ℕ) → spelled_expr (e.Member a s at) ≡ expr_spelling (Expr-F.Member (spelled_expr a) (spelled_set s) at)
-Member_is a s at = ap spelled_expr (sym (e.rolls-Member a s at)) ∙ fold-roll-Expr Spelling (List Mark) Spelling (List Mark) expr_spelling item_spelling set_spelling filter_spelling (Expr-F.Member a s at)
+pub Member_is : (a : Expr) (s : SetExpr) (at : ℕ) → spelled_expr (e.Member at a s) ≡ expr_spelling (Expr-F.Member at (spelled_expr a) (spelled_set s))
+Member_is a s at = ap spelled_expr (sym (e.rolls-Member at a s)) ∙ fold-roll-Expr Spelling (List Mark) Spelling (List Mark) expr_spelling item_spelling set_spelling filter_spelling (Expr-F.Member at a s)
 
-pub Not_is : (a : Expr) (at : ℕ) → spelled_expr (e.Not a at) ≡ expr_spelling (Expr-F.Not (spelled_expr a) at)
-Not_is a at = ap spelled_expr (sym (e.rolls-Not a at)) ∙ fold-roll-Expr Spelling (List Mark) Spelling (List Mark) expr_spelling item_spelling set_spelling filter_spelling (Expr-F.Not a at)
+pub Not_is : (a : Expr) (at : ℕ) → spelled_expr (e.Not at a) ≡ expr_spelling (Expr-F.Not at (spelled_expr a))
+Not_is a at = ap spelled_expr (sym (e.rolls-Not at a)) ∙ fold-roll-Expr Spelling (List Mark) Spelling (List Mark) expr_spelling item_spelling set_spelling filter_spelling (Expr-F.Not at a)
 
-pub And_is : (a b : Expr) (at : ℕ) → spelled_expr (e.And a b at) ≡ expr_spelling (Expr-F.And (spelled_expr a) (spelled_expr b) at)
-And_is a b at = ap spelled_expr (sym (e.rolls-And a b at)) ∙ fold-roll-Expr Spelling (List Mark) Spelling (List Mark) expr_spelling item_spelling set_spelling filter_spelling (Expr-F.And a b at)
+pub And_is : (a b : Expr) (at : ℕ) → spelled_expr (e.And at a b) ≡ expr_spelling (Expr-F.And at (spelled_expr a) (spelled_expr b))
+And_is a b at = ap spelled_expr (sym (e.rolls-And at a b)) ∙ fold-roll-Expr Spelling (List Mark) Spelling (List Mark) expr_spelling item_spelling set_spelling filter_spelling (Expr-F.And at a b)
 
-pub Or_is : (a b : Expr) (at : ℕ) → spelled_expr (e.Or a b at) ≡ expr_spelling (Expr-F.Or (spelled_expr a) (spelled_expr b) at)
-Or_is a b at = ap spelled_expr (sym (e.rolls-Or a b at)) ∙ fold-roll-Expr Spelling (List Mark) Spelling (List Mark) expr_spelling item_spelling set_spelling filter_spelling (Expr-F.Or a b at)
+pub Or_is : (a b : Expr) (at : ℕ) → spelled_expr (e.Or at a b) ≡ expr_spelling (Expr-F.Or at (spelled_expr a) (spelled_expr b))
+Or_is a b at = ap spelled_expr (sym (e.rolls-Or at a b)) ∙ fold-roll-Expr Spelling (List Mark) Spelling (List Mark) expr_spelling item_spelling set_spelling filter_spelling (Expr-F.Or at a b)
 
-pub IfE_is : (a b d : Expr) (at : ℕ) → spelled_expr (e.IfE a b d at) ≡ expr_spelling (Expr-F.IfE (spelled_expr a) (spelled_expr b) (spelled_expr d) at)
-IfE_is a b d at = ap spelled_expr (sym (e.rolls-IfE a b d at)) ∙ fold-roll-Expr Spelling (List Mark) Spelling (List Mark) expr_spelling item_spelling set_spelling filter_spelling (Expr-F.IfE a b d at)
+pub IfE_is : (a b d : Expr) (at : ℕ) → spelled_expr (e.IfE at a b d) ≡ expr_spelling (Expr-F.IfE at (spelled_expr a) (spelled_expr b) (spelled_expr d))
+IfE_is a b d at = ap spelled_expr (sym (e.rolls-IfE at a b d)) ∙ fold-roll-Expr Spelling (List Mark) Spelling (List Mark) expr_spelling item_spelling set_spelling filter_spelling (Expr-F.IfE at a b d)
 
-pub MatchE_is : (a b : Expr) (x : Named) (d : Expr) (at : ℕ) → spelled_expr (e.MatchE a b x d at) ≡ expr_spelling (Expr-F.MatchE (spelled_expr a) (spelled_expr b) x (spelled_expr d) at)
-MatchE_is a b x d at = ap spelled_expr (sym (e.rolls-MatchE a b x d at)) ∙ fold-roll-Expr Spelling (List Mark) Spelling (List Mark) expr_spelling item_spelling set_spelling filter_spelling (Expr-F.MatchE a b x d at)
+pub MatchE_is : (a b : Expr) (x : Named) (d : Expr) (at : ℕ) → spelled_expr (e.MatchE at a b (x, d)) ≡ expr_spelling (Expr-F.MatchE at (spelled_expr a) (spelled_expr b) (x, spelled_expr d))
+MatchE_is a b x d at = ap spelled_expr (sym (e.rolls-MatchE at a b (x, d))) ∙ fold-roll-Expr Spelling (List Mark) Spelling (List Mark) expr_spelling item_spelling set_spelling filter_spelling (Expr-F.MatchE at a b (x, d))
 
-pub List_is : (xs : List Item) (at : ℕ) → spelled_set (s.List xs at) ≡ set_spelling (SetExpr-F.List (map spelled_item xs) at)
-List_is xs at = ap spelled_set (sym (s.rolls-List xs at)) ∙ fold-roll-SetExpr Spelling (List Mark) Spelling (List Mark) expr_spelling item_spelling set_spelling filter_spelling (SetExpr-F.List xs at)
+pub List_is : (xs : List Item) (at : ℕ) → spelled_set (s.List at xs) ≡ set_spelling (SetExpr-F.List at (map spelled_item xs))
+List_is xs at = ap spelled_set (sym (s.rolls-List at xs)) ∙ fold-roll-SetExpr Spelling (List Mark) Spelling (List Mark) expr_spelling item_spelling set_spelling filter_spelling (SetExpr-F.List at xs)
 
-pub Sum_is : (a b : SetExpr) (at : ℕ) → spelled_set (s.Sum a b at) ≡ set_spelling (SetExpr-F.Sum (spelled_set a) (spelled_set b) at)
-Sum_is a b at = ap spelled_set (sym (s.rolls-Sum a b at)) ∙ fold-roll-SetExpr Spelling (List Mark) Spelling (List Mark) expr_spelling item_spelling set_spelling filter_spelling (SetExpr-F.Sum a b at)
+pub Sum_is : (a b : SetExpr) (at : ℕ) → spelled_set (s.Sum at a b) ≡ set_spelling (SetExpr-F.Sum at (spelled_set a) (spelled_set b))
+Sum_is a b at = ap spelled_set (sym (s.rolls-Sum at a b)) ∙ fold-roll-SetExpr Spelling (List Mark) Spelling (List Mark) expr_spelling item_spelling set_spelling filter_spelling (SetExpr-F.Sum at a b)
 
-pub Less_is : (a b : SetExpr) (at : ℕ) → spelled_set (s.Less a b at) ≡ set_spelling (SetExpr-F.Less (spelled_set a) (spelled_set b) at)
-Less_is a b at = ap spelled_set (sym (s.rolls-Less a b at)) ∙ fold-roll-SetExpr Spelling (List Mark) Spelling (List Mark) expr_spelling item_spelling set_spelling filter_spelling (SetExpr-F.Less a b at)
+pub Less_is : (a b : SetExpr) (at : ℕ) → spelled_set (s.Less at a b) ≡ set_spelling (SetExpr-F.Less at (spelled_set a) (spelled_set b))
+Less_is a b at = ap spelled_set (sym (s.rolls-Less at a b)) ∙ fold-roll-SetExpr Spelling (List Mark) Spelling (List Mark) expr_spelling item_spelling set_spelling filter_spelling (SetExpr-F.Less at a b)
 
-pub Find_is : (m : Named) (xs : List Filter) (at : ℕ) → spelled_set (s.Find m xs at) ≡ set_spelling (SetExpr-F.Find m (map spelled_filter xs) at)
-Find_is m xs at = ap spelled_set (sym (s.rolls-Find m xs at)) ∙ fold-roll-SetExpr Spelling (List Mark) Spelling (List Mark) expr_spelling item_spelling set_spelling filter_spelling (SetExpr-F.Find m xs at)
+pub Find_is : (m : Named) (xs : List Filter) (at : ℕ) → spelled_set (s.Find at m xs) ≡ set_spelling (SetExpr-F.Find at m (map spelled_filter xs))
+Find_is m xs at = ap spelled_set (sym (s.rolls-Find at m xs)) ∙ fold-roll-SetExpr Spelling (List Mark) Spelling (List Mark) expr_spelling item_spelling set_spelling filter_spelling (SetExpr-F.Find at m xs)
 
-pub MapS_is : (a : SetExpr) (x : Named) (b : Expr) (at : ℕ) → spelled_set (s.MapS a x b at) ≡ set_spelling (SetExpr-F.MapS (spelled_set a) x (spelled_expr b) at)
-MapS_is a x b at = ap spelled_set (sym (s.rolls-MapS a x b at)) ∙ fold-roll-SetExpr Spelling (List Mark) Spelling (List Mark) expr_spelling item_spelling set_spelling filter_spelling (SetExpr-F.MapS a x b at)
+pub MapS_is : (a : SetExpr) (x : Named) (b : Expr) (at : ℕ) → spelled_set (s.MapS at a x b) ≡ set_spelling (SetExpr-F.MapS at (spelled_set a) x (spelled_expr b))
+MapS_is a x b at = ap spelled_set (sym (s.rolls-MapS at a x b)) ∙ fold-roll-SetExpr Spelling (List Mark) Spelling (List Mark) expr_spelling item_spelling set_spelling filter_spelling (SetExpr-F.MapS at a x b)
 
-pub FlatS_is : (a : SetExpr) (x : Named) (b : SetExpr) (at : ℕ) → spelled_set (s.FlatS a x b at) ≡ set_spelling (SetExpr-F.FlatS (spelled_set a) x (spelled_set b) at)
-FlatS_is a x b at = ap spelled_set (sym (s.rolls-FlatS a x b at)) ∙ fold-roll-SetExpr Spelling (List Mark) Spelling (List Mark) expr_spelling item_spelling set_spelling filter_spelling (SetExpr-F.FlatS a x b at)
+pub FlatS_is : (a : SetExpr) (x : Named) (b : SetExpr) (at : ℕ) → spelled_set (s.FlatS at a x b) ≡ set_spelling (SetExpr-F.FlatS at (spelled_set a) x (spelled_set b))
+FlatS_is a x b at = ap spelled_set (sym (s.rolls-FlatS at a x b)) ∙ fold-roll-SetExpr Spelling (List Mark) Spelling (List Mark) expr_spelling item_spelling set_spelling filter_spelling (SetExpr-F.FlatS at a x b)
 
-pub IfS_is : (a : Expr) (b d : SetExpr) (at : ℕ) → spelled_set (s.IfS a b d at) ≡ set_spelling (SetExpr-F.IfS (spelled_expr a) (spelled_set b) (spelled_set d) at)
-IfS_is a b d at = ap spelled_set (sym (s.rolls-IfS a b d at)) ∙ fold-roll-SetExpr Spelling (List Mark) Spelling (List Mark) expr_spelling item_spelling set_spelling filter_spelling (SetExpr-F.IfS a b d at)
+pub IfS_is : (a : Expr) (b d : SetExpr) (at : ℕ) → spelled_set (s.IfS at a b d) ≡ set_spelling (SetExpr-F.IfS at (spelled_expr a) (spelled_set b) (spelled_set d))
+IfS_is a b d at = ap spelled_set (sym (s.rolls-IfS at a b d)) ∙ fold-roll-SetExpr Spelling (List Mark) Spelling (List Mark) expr_spelling item_spelling set_spelling filter_spelling (SetExpr-F.IfS at a b d)
 
-pub MatchS_is : (a : Expr) (b : SetExpr) (x : Named) (d : SetExpr) (at : ℕ) → spelled_set (s.MatchS a b x d at) ≡ set_spelling (SetExpr-F.MatchS (spelled_expr a) (spelled_set b) x (spelled_set d) at)
-MatchS_is a b x d at = ap spelled_set (sym (s.rolls-MatchS a b x d at)) ∙ fold-roll-SetExpr Spelling (List Mark) Spelling (List Mark) expr_spelling item_spelling set_spelling filter_spelling (SetExpr-F.MatchS a b x d at)
+pub MatchS_is : (a : Expr) (b : SetExpr) (x : Named) (d : SetExpr) (at : ℕ) → spelled_set (s.MatchS at a b x d) ≡ set_spelling (SetExpr-F.MatchS at (spelled_expr a) (spelled_set b) x (spelled_set d))
+MatchS_is a b x d at = ap spelled_set (sym (s.rolls-MatchS at a b x d)) ∙ fold-roll-SetExpr Spelling (List Mark) Spelling (List Mark) expr_spelling item_spelling set_spelling filter_spelling (SetExpr-F.MatchS at a b x d)
 
 pub at_least_more : (rank : ℕ) (s : Spelling) → s.rank < rank → at_least rank s ≡ sign k.ParenOpen ∷ (s.marks ++ sign k.ParenClose ∷ [])
 at_least_more rank s low = go (leb rank s.rank) refl

@@ -85,22 +85,22 @@ step word x body =
 -- ---- one level, of which the parts are spelled
 
 abbrev pub expr_spelling : Expr-F Spelling (List Mark) Spelling (List Mark) → Spelling
-expr_spelling (Expr-F.Flag true at) = record { rank = 5; marks = lower (codes "true") ∷ [] }
-expr_spelling (Expr-F.Flag false at) = record { rank = 5; marks = lower (codes "false") ∷ [] }
-expr_spelling (Expr-F.Num value at) = record { rank = 5; marks = number value }
-expr_spelling (Expr-F.Str value at) = record { rank = 5; marks = text value ∷ [] }
-expr_spelling (Expr-F.Var x at) = record { rank = 6; marks = lower x.name ∷ [] }
+expr_spelling (Expr-F.Flag at true) = record { rank = 5; marks = lower (codes "true") ∷ [] }
+expr_spelling (Expr-F.Flag at false) = record { rank = 5; marks = lower (codes "false") ∷ [] }
+expr_spelling (Expr-F.Num at value) = record { rank = 5; marks = number value }
+expr_spelling (Expr-F.Str at value) = record { rank = 5; marks = text value ∷ [] }
+expr_spelling (Expr-F.Var at x) = record { rank = 6; marks = lower x.name ∷ [] }
 expr_spelling (Expr-F.NoneLit at) = record { rank = 5; marks = lower (codes "none") ∷ [] }
-expr_spelling (Expr-F.SomeLit e at) =
+expr_spelling (Expr-F.SomeLit at e) =
     record { rank = 5; marks = lower (codes "some") ∷ sign k.ParenOpen ∷ (e.marks ++ sign k.ParenClose ∷ []) }
-expr_spelling (Expr-F.Get e field at) = record { rank = 6; marks = at_least 6 e ++ sign k.Dot ∷ lower field.name ∷ [] }
-expr_spelling (Expr-F.Cmp op a b at) = record { rank = 3; marks = at_least 4 a ++ (between (cmp_sign op) ++ at_least 4 b) }
-expr_spelling (Expr-F.Member e set at) = record { rank = 3; marks = at_least 4 e ++ (spaced (codes "in") ++ container set) }
-expr_spelling (Expr-F.Not e at) = record { rank = 4; marks = sign k.Not ∷ at_least 5 e }
-expr_spelling (Expr-F.And a b at) = record { rank = 2; marks = at_least 2 a ++ (between k.AndAnd ++ at_least 3 b) }
-expr_spelling (Expr-F.Or a b at) = record { rank = 1; marks = at_least 1 a ++ (between k.OrOr ++ at_least 2 b) }
-expr_spelling (Expr-F.IfE c a b at) = record { rank = 0; marks = choice c.marks a.marks b.marks }
-expr_spelling (Expr-F.MatchE e a x b at) = record { rank = 0; marks = cases e.marks a.marks x.name b.marks }
+expr_spelling (Expr-F.Get at e field) = record { rank = 6; marks = at_least 6 e ++ sign k.Dot ∷ lower field.name ∷ [] }
+expr_spelling (Expr-F.Cmp at op a b) = record { rank = 3; marks = at_least 4 a ++ (between (cmp_sign op) ++ at_least 4 b) }
+expr_spelling (Expr-F.Member at e set) = record { rank = 3; marks = at_least 4 e ++ (spaced (codes "in") ++ container set) }
+expr_spelling (Expr-F.Not at e) = record { rank = 4; marks = sign k.Not ∷ at_least 5 e }
+expr_spelling (Expr-F.And at a b) = record { rank = 2; marks = at_least 2 a ++ (between k.AndAnd ++ at_least 3 b) }
+expr_spelling (Expr-F.Or at a b) = record { rank = 1; marks = at_least 1 a ++ (between k.OrOr ++ at_least 2 b) }
+expr_spelling (Expr-F.IfE at c a b) = record { rank = 0; marks = choice c.marks a.marks b.marks }
+expr_spelling (Expr-F.MatchE at e a (x, b)) = record { rank = 0; marks = cases e.marks a.marks x.name b.marks }
 
 abbrev pub item_spelling : Item-F Spelling (List Mark) Spelling (List Mark) → List Mark
 item_spelling (Item-F.Static x) = upper x.name ∷ []
@@ -110,23 +110,23 @@ abbrev pub filter_spelling : Filter-F Spelling (List Mark) Spelling (List Mark) 
 filter_spelling f = lower f.field.name ∷ (filter_sign f.op ++ f.value.marks)
 
 abbrev pub set_spelling : SetExpr-F Spelling (List Mark) Spelling (List Mark) → Spelling
-set_spelling (SetExpr-F.Everyone word at) = record { rank = 2; marks = lower (codes "public") ∷ [] }
+set_spelling (SetExpr-F.Everyone at word) = record { rank = 2; marks = lower (codes "public") ∷ [] }
 set_spelling (SetExpr-F.Nobody at) = record { rank = 2; marks = lower (codes "none") ∷ [] }
-set_spelling (SetExpr-F.List items at) =
+set_spelling (SetExpr-F.List at items) =
     record { rank = 2; marks = sign k.BracketOpen ∷ (commas items ++ sign k.BracketClose ∷ []) }
-set_spelling (SetExpr-F.Sum a b at) = record { rank = 1; marks = at_least 1 a ++ (between k.Plus ++ at_least 2 b) }
-set_spelling (SetExpr-F.Less a b at) = record { rank = 1; marks = at_least 1 a ++ (between k.Minus ++ at_least 2 b) }
-set_spelling (SetExpr-F.Find model filters at) = record {
+set_spelling (SetExpr-F.Sum at a b) = record { rank = 1; marks = at_least 1 a ++ (between k.Plus ++ at_least 2 b) }
+set_spelling (SetExpr-F.Less at a b) = record { rank = 1; marks = at_least 1 a ++ (between k.Minus ++ at_least 2 b) }
+set_spelling (SetExpr-F.Find at model filters) = record {
   rank = 2;
   marks =
       upper model.name ∷ sign k.ColonColon ∷ upper (codes "Find") ∷ sign k.ParenOpen ∷ sign k.BraceOpen
       ∷ (commas filters ++ sign k.BraceClose ∷ sign k.ParenClose ∷ []);
 }
-set_spelling (SetExpr-F.Path e at) = record { rank = 3; marks = at_least 6 e }
-set_spelling (SetExpr-F.MapS of x e at) = record { rank = 2; marks = of.marks ++ step (codes "map") x.name e.marks }
-set_spelling (SetExpr-F.FlatS of x set at) = record { rank = 2; marks = of.marks ++ step (codes "flat_map") x.name set.marks }
-set_spelling (SetExpr-F.IfS c a b at) = record { rank = 0; marks = choice c.marks a.marks b.marks }
-set_spelling (SetExpr-F.MatchS e a x b at) = record { rank = 0; marks = cases e.marks a.marks x.name b.marks }
+set_spelling (SetExpr-F.Path at e) = record { rank = 3; marks = at_least 6 e }
+set_spelling (SetExpr-F.MapS at of x e) = record { rank = 2; marks = of.marks ++ step (codes "map") x.name e.marks }
+set_spelling (SetExpr-F.FlatS at of x set) = record { rank = 2; marks = of.marks ++ step (codes "flat_map") x.name set.marks }
+set_spelling (SetExpr-F.IfS at c a b) = record { rank = 0; marks = choice c.marks a.marks b.marks }
+set_spelling (SetExpr-F.MatchS at e a x b) = record { rank = 0; marks = cases e.marks a.marks x.name b.marks }
 
 -- ---- whole trees
 

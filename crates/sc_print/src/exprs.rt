@@ -88,54 +88,54 @@ impl Printer {
         ensures { OnOk result (self.new ≡ self.old ++ text_of_marks (spelled_expr e.now).marks) }
     {
         match e {
-            Expr::Flag(true, _) => self.put(b"true"),
-            Expr::Flag(false, _) => self.put(b"false"),
-            Expr::Num(value, _) => self.number(*value),
-            Expr::Str(value, _) => self.text(value.bytes()),
-            Expr::Var(x, _) => self.put(x.name.bytes()),
+            Expr::Flag(_, true) => self.put(b"true"),
+            Expr::Flag(_, false) => self.put(b"false"),
+            Expr::Num(_, value) => self.number(*value),
+            Expr::Str(_, value) => self.text(value.get().bytes()),
+            Expr::Var(_, x) => self.put(x.name.bytes()),
             Expr::NoneLit(_) => self.put(b"none"),
-            Expr::SomeLit(inner, _) => {
+            Expr::SomeLit(_, inner) => {
                 self.put(b"some(")?;
                 self.expr(inner.get())?;
                 self.put(b")")?;
                 Ok(())
             }
-            Expr::Get(of, field, _) => {
+            Expr::Get(_, of, field) => {
                 self.expr_within(6, of.get())?;
                 self.put(b".")?;
-                self.put(field.name.bytes())?;
+                self.put(field.get().name.bytes())?;
                 Ok(())
             }
-            Expr::Cmp(op, a, b, _) => {
+            Expr::Cmp(_, op, a, b) => {
                 self.expr_within(4, a.get())?;
                 self.put(cmp_sign(*op))?;
                 self.expr_within(4, b.get())?;
                 Ok(())
             }
-            Expr::Member(of, set, _) => {
+            Expr::Member(_, of, set) => {
                 self.expr_within(4, of.get())?;
                 self.put(b" in ")?;
                 self.container(set.get())?;
                 Ok(())
             }
-            Expr::Not(inner, _) => {
+            Expr::Not(_, inner) => {
                 self.put(b"!")?;
                 self.expr_within(5, inner.get())?;
                 Ok(())
             }
-            Expr::And(a, b, _) => {
+            Expr::And(_, a, b) => {
                 self.expr_within(2, a.get())?;
                 self.put(b" && ")?;
                 self.expr_within(3, b.get())?;
                 Ok(())
             }
-            Expr::Or(a, b, _) => {
+            Expr::Or(_, a, b) => {
                 self.expr_within(1, a.get())?;
                 self.put(b" || ")?;
                 self.expr_within(2, b.get())?;
                 Ok(())
             }
-            Expr::IfE(c, a, b, _) => {
+            Expr::IfE(_, c, a, b) => {
                 self.put(b"if ")?;
                 self.expr(c.get())?;
                 self.put(b" then ")?;
@@ -144,7 +144,8 @@ impl Printer {
                 self.expr(b.get())?;
                 Ok(())
             }
-            Expr::MatchE(of, none, x, some, _) => {
+            Expr::MatchE(_, of, none, some) => {
+                let (x, each) = some.get();
                 self.put(b"match ")?;
                 self.expr(of.get())?;
                 self.put(b" with none -> ")?;
@@ -152,7 +153,7 @@ impl Printer {
                 self.put(b" | some ")?;
                 self.put(x.name.bytes())?;
                 self.put(b" -> ")?;
-                self.expr(some.get())?;
+                self.expr(each)?;
                 Ok(())
             }
         }
@@ -196,66 +197,66 @@ impl Printer {
         match set {
             SetExpr::Everyone(..) => self.put(b"public"),
             SetExpr::Nobody(_) => self.put(b"none"),
-            SetExpr::List(items, _) => {
+            SetExpr::List(_, items) => {
                 self.put(b"[")?;
                 self.items(items.as_slice())?;
                 self.put(b"]")?;
                 Ok(())
             }
-            SetExpr::Sum(a, b, _) => {
+            SetExpr::Sum(_, a, b) => {
                 self.set_within(1, a.get())?;
                 self.put(b" + ")?;
                 self.set_within(2, b.get())?;
                 Ok(())
             }
-            SetExpr::Less(a, b, _) => {
+            SetExpr::Less(_, a, b) => {
                 self.set_within(1, a.get())?;
                 self.put(b" - ")?;
                 self.set_within(2, b.get())?;
                 Ok(())
             }
-            SetExpr::Find(model, filters, _) => {
-                self.put(model.name.bytes())?;
+            SetExpr::Find(_, model, filters) => {
+                self.put(model.get().name.bytes())?;
                 self.put(b"::Find({")?;
                 self.filters(filters.as_slice())?;
                 self.put(b"})")?;
                 Ok(())
             }
-            SetExpr::Path(e, _) => self.expr_within(6, e),
-            SetExpr::MapS(of, x, e, _) => {
+            SetExpr::Path(_, e) => self.expr_within(6, e),
+            SetExpr::MapS(_, of, x, e) => {
                 self.set(of.get())?;
                 self.put(b".map(")?;
-                self.put(x.name.bytes())?;
+                self.put(x.get().name.bytes())?;
                 self.put(b" -> ")?;
-                self.expr(e)?;
+                self.expr(e.get())?;
                 self.put(b")")?;
                 Ok(())
             }
-            SetExpr::FlatS(of, x, inner, _) => {
+            SetExpr::FlatS(_, of, x, inner) => {
                 self.set(of.get())?;
                 self.put(b".flat_map(")?;
-                self.put(x.name.bytes())?;
+                self.put(x.get().name.bytes())?;
                 self.put(b" -> ")?;
                 self.set(inner.get())?;
                 self.put(b")")?;
                 Ok(())
             }
-            SetExpr::IfS(c, a, b, _) => {
+            SetExpr::IfS(_, c, a, b) => {
                 self.put(b"if ")?;
-                self.expr(c)?;
+                self.expr(c.get())?;
                 self.put(b" then ")?;
                 self.set(a.get())?;
                 self.put(b" else ")?;
                 self.set(b.get())?;
                 Ok(())
             }
-            SetExpr::MatchS(of, none, x, some, _) => {
+            SetExpr::MatchS(_, of, none, x, some) => {
                 self.put(b"match ")?;
-                self.expr(of)?;
+                self.expr(of.get())?;
                 self.put(b" with none -> ")?;
                 self.set(none.get())?;
                 self.put(b" | some ")?;
-                self.put(x.name.bytes())?;
+                self.put(x.get().name.bytes())?;
                 self.put(b" -> ")?;
                 self.set(some.get())?;
                 Ok(())

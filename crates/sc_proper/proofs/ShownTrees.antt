@@ -143,19 +143,19 @@ compared_shown Ge b x y gx gy = not_shown (t.Less x y Ge) (less_shown Ge x y gx 
 -- ---- each form, of its parts
 
 module _ (s : Schema) where
-  Flag_shown : (value : Bool) (at : ℕ) → ExprShown s (e.Flag value at)
+  Flag_shown : (value : Bool) (at : ℕ) → ExprShown s (e.Flag at value)
   Flag_shown value at vars asked r h =
       fitted asked at (Plain base.Bool) (t.Flag value) (flag value) r (seen.Flag_seen value) (sym (form.Flag_is s vars asked value at) ∙ h) (tt, refl)
 
-  Num_shown : (value : ℤ) (at : ℕ) → ExprShown s (e.Num value at)
+  Num_shown : (value : ℤ) (at : ℕ) → ExprShown s (e.Num at value)
   Num_shown value at vars asked r h =
       fitted asked at (Plain base.Int) (t.Num value) (num value) r (seen.Num_seen value) (sym (form.Num_is s vars asked value at) ∙ h) (tt, refl)
 
-  Str_shown : (text : List ℕ) (at : ℕ) → ExprShown s (e.Str text at)
+  Str_shown : (text : List ℕ) (at : ℕ) → ExprShown s (e.Str at text)
   Str_shown text at vars asked r h =
       fitted asked at (Plain base.Text) (t.Str text) (str text) r (seen.Str_seen text) (sym (form.Str_is s vars asked text at) ∙ h) (tt, refl)
 
-  Var_shown : (x : Named) (at : ℕ) → ExprShown s (e.Var x at)
+  Var_shown : (x : Named) (at : ℕ) → ExprShown s (e.Var at x)
   Var_shown x at vars asked r h =
       let k = part.Var_parts s vars asked x at r h in
       fitted asked at k.0.1 (t.Var k.0.0 x.name) (var k.0.0 x.name) r (seen.Var_seen k.0.0 x.name) k.2 (tt, refl)
@@ -172,19 +172,19 @@ module _ (s : Schema) where
   NoneLit_shown : (at : ℕ) → ExprShown s (e.NoneLit at)
   NoneLit_shown at vars asked r h = none_shown at asked r (sym (form.NoneLit_is s vars asked at) ∙ h)
 
-  SomeLit_shown : (x : tree.Expr) (at : ℕ) → ExprShown s x → ExprShown s (e.SomeLit x at)
+  SomeLit_shown : (x : tree.Expr) (at : ℕ) → ExprShown s x → ExprShown s (e.SomeLit at x)
   SomeLit_shown x at gx vars asked r h =
       let k = part.SomeLit_parts s vars asked x at r h in
       let a = gx vars _ k.0 k.2 in
       fitted asked at (Opt k.1) (t.SomeLit k.0.tree) (just (expr_of k.0.tree)) r (seen.SomeLit_seen k.0.tree) k.4 (a.0, refl)
 
-  Get_shown : (x : tree.Expr) (f : Named) (at : ℕ) → ExprShown s x → ExprShown s (e.Get x f at)
+  Get_shown : (x : tree.Expr) (f : Named) (at : ℕ) → ExprShown s x → ExprShown s (e.Get at x f)
   Get_shown x f at gx vars asked r h =
       let k = part.Get_parts s vars asked x f at r h in
       let a = gx vars None k.0 k.2 in
       fitted asked at k.1.2 (t.Get k.0.tree k.1.0 k.1.1) (get (expr_of k.0.tree) k.1.0 k.1.1) r (seen.Get_seen k.0.tree k.1.0 k.1.1) k.4 (a.0, refl)
 
-  Cmp_shown : (op : CmpOp) (x y : tree.Expr) (at : ℕ) → ExprShown s x → ExprShown s y → ExprShown s (e.Cmp op x y at)
+  Cmp_shown : (op : CmpOp) (x y : tree.Expr) (at : ℕ) → ExprShown s x → ExprShown s y → ExprShown s (e.Cmp at op x y)
   Cmp_shown op x y at gx gy vars asked r h =
       let k = part.Cmp_parts s vars asked op x y at r h in
       let whole : TExpr = compared op k.1 k.0.tree k.2.tree in
@@ -192,27 +192,27 @@ module _ (s : Schema) where
       let b = gy vars _ k.2 k.5 in
       fitted asked at (Plain base.Bool) whole (expr_of whole) r refl k.6 (compared_shown op k.1 k.0.tree k.2.tree a.0 b.0)
 
-  Member_shown : (x : tree.Expr) (set : tree_set.SetExpr) (at : ℕ) → ExprShown s x → SetShown s set → ExprShown s (e.Member x set at)
+  Member_shown : (x : tree.Expr) (set : tree_set.SetExpr) (at : ℕ) → ExprShown s x → SetShown s set → ExprShown s (e.Member at x set)
   Member_shown x set at gx gset vars asked r h =
       let k = part.Member_parts s vars asked x set at r h in
       let a = gx vars None k.0 k.3 in
       let all = gset.0 vars (Records k.1) k.2 k.5 in
       fitted asked at (Plain base.Bool) (t.Member k.0.tree k.1 k.2) (within (expr_of k.0.tree) k.1 (set_of k.2)) r (seen.Member_seen k.0.tree k.1 k.2) k.6 ((a.0, all), refl)
 
-  Not_shown : (x : tree.Expr) (at : ℕ) → ExprShown s x → ExprShown s (e.Not x at)
+  Not_shown : (x : tree.Expr) (at : ℕ) → ExprShown s x → ExprShown s (e.Not at x)
   Not_shown x at gx vars asked r h =
       let k = part.Not_parts s vars asked x at r h in
       let a = gx vars _ k.0 k.1 in
       fitted asked at (Plain base.Bool) (t.Not k.0.tree) (negation (expr_of k.0.tree)) r (seen.Not_seen k.0.tree) k.2 (a.0, refl)
 
-  And_shown : (x y : tree.Expr) (at : ℕ) → ExprShown s x → ExprShown s y → ExprShown s (e.And x y at)
+  And_shown : (x y : tree.Expr) (at : ℕ) → ExprShown s x → ExprShown s y → ExprShown s (e.And at x y)
   And_shown x y at gx gy vars asked r h =
       let k = part.And_parts s vars asked x y at r h in
       let a = gx vars _ k.0 k.2 in
       let b = gy vars _ k.1 k.3 in
       fitted asked at (Plain base.Bool) (t.And k.0.tree k.1.tree) (both (expr_of k.0.tree) (expr_of k.1.tree)) r (seen.And_seen k.0.tree k.1.tree) k.4 ((a.0, b.0), refl)
 
-  Or_shown : (x y : tree.Expr) (at : ℕ) → ExprShown s x → ExprShown s y → ExprShown s (e.Or x y at)
+  Or_shown : (x y : tree.Expr) (at : ℕ) → ExprShown s x → ExprShown s y → ExprShown s (e.Or at x y)
   Or_shown x y at gx gy vars asked r h =
       let k = part.Or_parts s vars asked x y at r h in
       let a = gx vars _ k.0 k.2 in
@@ -224,7 +224,7 @@ module _ (s : Schema) where
   of_branch asked tree x r at ty saw made shown =
       subst (λ (z : Typed). BothAlone asked (expr_of z.tree)) made (subst (BothAlone asked) (sym saw) shown)
 
-  IfE_shown : (c x y : tree.Expr) (at : ℕ) → ExprShown s c → ExprShown s x → ExprShown s y → ExprShown s (e.IfE c x y at)
+  IfE_shown : (c x y : tree.Expr) (at : ℕ) → ExprShown s c → ExprShown s x → ExprShown s y → ExprShown s (e.IfE at c x y)
   IfE_shown c x y at gc gx gy vars asked r h =
       let k = part.IfE_parts s vars asked c x y at r h in
       let a = gc vars _ k.0 k.3 in
@@ -233,7 +233,7 @@ module _ (s : Schema) where
       of_branch asked (t.IfE k.0.tree k.1.tree k.2.tree) (if_expr (expr_of k.0.tree) (expr_of k.1.tree) (expr_of k.2.tree)) r at k.1.ty
       (seen.IfE_seen k.0.tree k.1.tree k.2.tree) k.6 ((a.0, b.0, d.0), b.1)
 
-  MatchE_shown : (x y : tree.Expr) (v : Named) (z : tree.Expr) (at : ℕ) → ExprShown s x → ExprShown s y → ExprShown s z → ExprShown s (e.MatchE x y v z at)
+  MatchE_shown : (x y : tree.Expr) (v : Named) (z : tree.Expr) (at : ℕ) → ExprShown s x → ExprShown s y → ExprShown s z → ExprShown s (e.MatchE at x y (v, z))
   MatchE_shown x y v z at gx gy gz vars asked r h =
       let k = part.MatchE_parts s vars asked x y v z at r h in
       let a = gx vars None k.0 k.5 in
@@ -250,12 +250,12 @@ module _ (s : Schema) where
   no_source : (vars : List Var) (x : tree_set.SetExpr) (at : ℕ) (r : Source) → typed_source s vars x ≡ Err (WrongType at) → typed_source s vars x ≡ Ok r → BothSource (set_of r.set)
   no_source vars x at r none h = let never : ⊥ = cc in absurd never
 
-  Everyone_shown : (word at : ℕ) → SetShown s (se.Everyone word at)
+  Everyone_shown : (word at : ℕ) → SetShown s (se.Everyone at word)
   Everyone_shown word at = (
     λ vars content r h.
         let k = part.Everyone_parts s vars content word at r h in
         as_seen ts.Everyone r everyone seen.Everyone_seen k.2 tt,
-    λ vars r h. no_source vars (se.Everyone word at) at r (form.Everyone_no_source s vars word at) h,
+    λ vars r h. no_source vars (se.Everyone at word) at r (form.Everyone_no_source s vars word at) h,
   )
 
   Nobody_shown : (at : ℕ) → SetShown s (se.Nobody at)
@@ -264,7 +264,7 @@ module _ (s : Schema) where
     λ vars r h. no_source vars (se.Nobody at) at r (form.Nobody_no_source s vars at) h,
   )
 
-  List_shown : (xs : List (SureItem s)) (at : ℕ) → SetShown s (se.List (map (λ (x : SureItem s). x.0) xs) at)
+  List_shown : (xs : List (SureItem s)) (at : ℕ) → SetShown s (se.List at (map (λ (x : SureItem s). x.0) xs))
   List_shown xs at =
       let plain : List Item = map (λ (x : SureItem s). x.0) xs in (
         λ vars content r h.
@@ -272,23 +272,23 @@ module _ (s : Schema) where
             let each = each_ok (typed_item s vars content) plain [] k.0 k.1 in
             let all : EachOk (typed_item s vars content) plain k.0 = subst (EachOk (typed_item s vars content) plain) each.1 each.2 in
             as_seen (ts.List k.0) r (listed (items_of (map item_of k.0))) (seen.List_seen k.0) k.2 (items_shown s vars content xs k.0 all),
-        λ vars r h. no_source vars (se.List plain at) at r (form.List_no_source s vars plain at) h,
+        λ vars r h. no_source vars (se.List at plain) at r (form.List_no_source s vars plain at) h,
       )
 
-  Sum_shown : (x y : tree_set.SetExpr) (at : ℕ) → SetShown s x → SetShown s y → SetShown s (se.Sum x y at)
+  Sum_shown : (x y : tree_set.SetExpr) (at : ℕ) → SetShown s x → SetShown s y → SetShown s (se.Sum at x y)
   Sum_shown x y at gx gy = (
     λ vars content r h.
         let k = part.Sum_parts s vars content x y at r h in
         as_seen (ts.Sum k.0 k.1) r (union (set_of k.0) (set_of k.1)) (seen.Sum_seen k.0 k.1) k.4 (gx.0 vars content k.0 k.2, gy.0 vars content k.1 k.3),
-    λ vars r h. no_source vars (se.Sum x y at) at r (form.Sum_no_source s vars x y at) h,
+    λ vars r h. no_source vars (se.Sum at x y) at r (form.Sum_no_source s vars x y at) h,
   )
 
-  Less_shown : (x y : tree_set.SetExpr) (at : ℕ) → SetShown s x → SetShown s y → SetShown s (se.Less x y at)
+  Less_shown : (x y : tree_set.SetExpr) (at : ℕ) → SetShown s x → SetShown s y → SetShown s (se.Less at x y)
   Less_shown x y at gx gy = (
     λ vars content r h.
         let k = part.Less_parts s vars content x y at r h in
         as_seen (ts.Less k.0 k.1) r (minus (set_of k.0) (set_of k.1)) (seen.Minus_seen k.0 k.1) k.4 (gx.0 vars content k.0 k.2, gy.0 vars content k.1 k.3),
-    λ vars r h. no_source vars (se.Less x y at) at r (form.Less_no_source s vars x y at) h,
+    λ vars r h. no_source vars (se.Less at x y) at r (form.Less_no_source s vars x y at) h,
   )
 
   -- a source as what it stands for
@@ -299,7 +299,7 @@ module _ (s : Schema) where
   chain_shown : (of : Source) (r : TSet) → BothSource (set_of of.set) → of.set ≡ r → SetIsShown (set_of r)
   chain_shown of r shown h = subst (λ (z : TSet). SetIsShown (set_of z)) h shown.0
 
-  Find_source_shown : (model : Named) (xs : List (SureFilter s)) (at : ℕ) → SourceShown s (se.Find model (map (λ (x : SureFilter s). x.0) xs) at)
+  Find_source_shown : (model : Named) (xs : List (SureFilter s)) (at : ℕ) → SourceShown s (se.Find at model (map (λ (x : SureFilter s). x.0) xs))
   Find_source_shown model xs at vars r h =
       let plain : List Filter = map (λ (x : SureFilter s). x.0) xs in
       let k = part.Find_source_parts s vars model plain at r h in
@@ -307,13 +307,13 @@ module _ (s : Schema) where
       let all : EachOk (typed_filter s vars k.0) plain k.1 = subst (EachOk (typed_filter s vars k.0) plain) each.1 each.2 in
       source_seen model.at k.0 (ts.Find k.0 k.1) (find k.0 (filters_of (map filter_of k.1))) r (seen.Find_seen k.0 k.1) k.4 (filters_shown s vars k.0 xs k.1 all, refl)
 
-  Path_source_shown : (x : tree.Expr) (at : ℕ) → ExprShown s x → SourceShown s (se.Path x at)
+  Path_source_shown : (x : tree.Expr) (at : ℕ) → ExprShown s x → SourceShown s (se.Path at x)
   Path_source_shown x at gx vars r h =
       let k = part.Path_source_parts s vars x at r h in
       let a = gx vars None k.0 k.2 in
       source_seen k.0.at k.1 (ts.Path k.1 k.0.tree) (path k.1 (expr_of k.0.tree)) r (seen.Path_seen k.1 k.0.tree) k.4 (a.0, refl)
 
-  MapS_source_shown : (x : tree_set.SetExpr) (v : Named) (y : tree.Expr) (at : ℕ) → SetShown s x → ExprShown s y → SourceShown s (se.MapS x v y at)
+  MapS_source_shown : (x : tree_set.SetExpr) (v : Named) (y : tree.Expr) (at : ℕ) → SetShown s x → ExprShown s y → SourceShown s (se.MapS at x v y)
   MapS_source_shown x v y at gx gy vars r h =
       let k = part.MapS_source_parts s vars x v y at r h in
       let over = gx.1 vars k.0 k.4 in
@@ -321,7 +321,7 @@ module _ (s : Schema) where
       source_seen k.0.at k.3 (ts.MapS k.0.set k.0.model v.name k.3 k.2.tree) (mapped (set_of k.0.set) k.0.model v.name k.3 (expr_of k.2.tree)) r
       (seen.MapS_seen k.0.set k.0.model v.name k.3 k.2.tree) k.8 ((over.1, over.0, a.0), refl)
 
-  Find_shown : (model : Named) (xs : List (SureFilter s)) (at : ℕ) → SetShown s (se.Find model (map (λ (x : SureFilter s). x.0) xs) at)
+  Find_shown : (model : Named) (xs : List (SureFilter s)) (at : ℕ) → SetShown s (se.Find at model (map (λ (x : SureFilter s). x.0) xs))
   Find_shown model xs at =
       let source = Find_source_shown model xs at in (
         λ vars content r h.
@@ -330,7 +330,7 @@ module _ (s : Schema) where
         source,
       )
 
-  Path_shown : (x : tree.Expr) (at : ℕ) → ExprShown s x → SetShown s (se.Path x at)
+  Path_shown : (x : tree.Expr) (at : ℕ) → ExprShown s x → SetShown s (se.Path at x)
   Path_shown x at gx =
       let source = Path_source_shown x at gx in (
         λ vars content r h.
@@ -339,7 +339,7 @@ module _ (s : Schema) where
         source,
       )
 
-  MapS_shown : (x : tree_set.SetExpr) (v : Named) (y : tree.Expr) (at : ℕ) → SetShown s x → ExprShown s y → SetShown s (se.MapS x v y at)
+  MapS_shown : (x : tree_set.SetExpr) (v : Named) (y : tree.Expr) (at : ℕ) → SetShown s x → ExprShown s y → SetShown s (se.MapS at x v y)
   MapS_shown x v y at gx gy =
       let source = MapS_source_shown x v y at gx gy in (
         λ vars content r h.
@@ -348,34 +348,34 @@ module _ (s : Schema) where
         source,
       )
 
-  FlatS_shown : (x : tree_set.SetExpr) (v : Named) (y : tree_set.SetExpr) (at : ℕ) → SetShown s x → SetShown s y → SetShown s (se.FlatS x v y at)
+  FlatS_shown : (x : tree_set.SetExpr) (v : Named) (y : tree_set.SetExpr) (at : ℕ) → SetShown s x → SetShown s y → SetShown s (se.FlatS at x v y)
   FlatS_shown x v y at gx gy = (
     λ vars content r h.
         let k = part.FlatS_parts s vars content x v y at r h in
         let over = gx.1 vars k.0 k.3 in
         as_seen (ts.FlatS k.0.set k.0.model v.name k.2) r (flat_mapped (set_of k.0.set) k.0.model v.name (set_of k.2)) (seen.FlatS_seen k.0.set k.0.model v.name k.2) k.6
         (over.1, over.0, gy.0 k.1 content k.2 k.5),
-    λ vars r h. no_source vars (se.FlatS x v y at) at r (form.FlatS_no_source s vars x v y at) h,
+    λ vars r h. no_source vars (se.FlatS at x v y) at r (form.FlatS_no_source s vars x v y at) h,
   )
 
-  IfS_shown : (c : tree.Expr) (x y : tree_set.SetExpr) (at : ℕ) → ExprShown s c → SetShown s x → SetShown s y → SetShown s (se.IfS c x y at)
+  IfS_shown : (c : tree.Expr) (x y : tree_set.SetExpr) (at : ℕ) → ExprShown s c → SetShown s x → SetShown s y → SetShown s (se.IfS at c x y)
   IfS_shown c x y at gc gx gy = (
     λ vars content r h.
         let k = part.IfS_parts s vars content c x y at r h in
         let a = gc vars _ k.0 k.3 in
         as_seen (ts.IfS k.0.tree k.1 k.2) r (if_set (expr_of k.0.tree) (set_of k.1) (set_of k.2)) (seen.IfS_seen k.0.tree k.1 k.2) k.6
         (a.0, gx.0 vars content k.1 k.4, gy.0 vars content k.2 k.5),
-    λ vars r h. no_source vars (se.IfS c x y at) at r (form.IfS_no_source s vars c x y at) h,
+    λ vars r h. no_source vars (se.IfS at c x y) at r (form.IfS_no_source s vars c x y at) h,
   )
 
-  MatchS_shown : (x : tree.Expr) (y : tree_set.SetExpr) (v : Named) (z : tree_set.SetExpr) (at : ℕ) → ExprShown s x → SetShown s y → SetShown s z → SetShown s (se.MatchS x y v z at)
+  MatchS_shown : (x : tree.Expr) (y : tree_set.SetExpr) (v : Named) (z : tree_set.SetExpr) (at : ℕ) → ExprShown s x → SetShown s y → SetShown s z → SetShown s (se.MatchS at x y v z)
   MatchS_shown x y v z at gx gy gz = (
     λ vars content r h.
         let k = part.MatchS_parts s vars content x y v z at r h in
         let a = gx vars None k.0 k.5 in
         as_seen (ts.MatchS k.0.tree k.2 v.name k.4) r (match_set (expr_of k.0.tree) (set_of k.2) v.name (set_of k.4)) (seen.MatchS_seen k.0.tree k.2 v.name k.4) k.10
         (a.1 refl, a.0, gy.0 vars content k.2 k.7, gz.0 k.3 content k.4 k.9),
-    λ vars r h. no_source vars (se.MatchS x y v z at) at r (form.MatchS_no_source s vars x y v z at) h,
+    λ vars r h. no_source vars (se.MatchS at x y v z) at r (form.MatchS_no_source s vars x y v z at) h,
   )
 
   -- ---- items and filters
@@ -412,34 +412,34 @@ module _ (s : Schema) where
 
   expr_step : (y : Expr-F SureExpr (SureItem s) SureSet (SureFilter s))
       → ExprShown s (roll-Expr (map-Expr SureExpr (SureItem s) SureSet (SureFilter s) tree.Expr Item tree_set.SetExpr Filter (λ e. e.0) (λ e. e.0) (λ e. e.0) (λ e. e.0) y))
-  expr_step (Expr-F.Flag value at) = subst (ExprShown s) (sym (e.rolls-Flag value at)) (Flag_shown value at)
-  expr_step (Expr-F.Num value at) = subst (ExprShown s) (sym (e.rolls-Num value at)) (Num_shown value at)
-  expr_step (Expr-F.Str text at) = subst (ExprShown s) (sym (e.rolls-Str text at)) (Str_shown text at)
-  expr_step (Expr-F.Var x at) = subst (ExprShown s) (sym (e.rolls-Var x at)) (Var_shown x at)
+  expr_step (Expr-F.Flag at value) = subst (ExprShown s) (sym (e.rolls-Flag at value)) (Flag_shown value at)
+  expr_step (Expr-F.Num at value) = subst (ExprShown s) (sym (e.rolls-Num at value)) (Num_shown value at)
+  expr_step (Expr-F.Str at text) = subst (ExprShown s) (sym (e.rolls-Str at text)) (Str_shown text at)
+  expr_step (Expr-F.Var at x) = subst (ExprShown s) (sym (e.rolls-Var at x)) (Var_shown x at)
   expr_step (Expr-F.NoneLit at) = subst (ExprShown s) (sym (e.rolls-NoneLit at)) (NoneLit_shown at)
-  expr_step (Expr-F.SomeLit x at) = subst (ExprShown s) (sym (e.rolls-SomeLit x.0 at)) (SomeLit_shown x.0 at x.1)
-  expr_step (Expr-F.Get x f at) = subst (ExprShown s) (sym (e.rolls-Get x.0 f at)) (Get_shown x.0 f at x.1)
-  expr_step (Expr-F.Cmp op x y at) = subst (ExprShown s) (sym (e.rolls-Cmp op x.0 y.0 at)) (Cmp_shown op x.0 y.0 at x.1 y.1)
-  expr_step (Expr-F.Member x set at) = subst (ExprShown s) (sym (e.rolls-Member x.0 set.0 at)) (Member_shown x.0 set.0 at x.1 set.1)
-  expr_step (Expr-F.Not x at) = subst (ExprShown s) (sym (e.rolls-Not x.0 at)) (Not_shown x.0 at x.1)
-  expr_step (Expr-F.And x y at) = subst (ExprShown s) (sym (e.rolls-And x.0 y.0 at)) (And_shown x.0 y.0 at x.1 y.1)
-  expr_step (Expr-F.Or x y at) = subst (ExprShown s) (sym (e.rolls-Or x.0 y.0 at)) (Or_shown x.0 y.0 at x.1 y.1)
-  expr_step (Expr-F.IfE c x y at) = subst (ExprShown s) (sym (e.rolls-IfE c.0 x.0 y.0 at)) (IfE_shown c.0 x.0 y.0 at c.1 x.1 y.1)
-  expr_step (Expr-F.MatchE x y v z at) = subst (ExprShown s) (sym (e.rolls-MatchE x.0 y.0 v z.0 at)) (MatchE_shown x.0 y.0 v z.0 at x.1 y.1 z.1)
+  expr_step (Expr-F.SomeLit at x) = subst (ExprShown s) (sym (e.rolls-SomeLit at x.0)) (SomeLit_shown x.0 at x.1)
+  expr_step (Expr-F.Get at x f) = subst (ExprShown s) (sym (e.rolls-Get at x.0 f)) (Get_shown x.0 f at x.1)
+  expr_step (Expr-F.Cmp at op x y) = subst (ExprShown s) (sym (e.rolls-Cmp at op x.0 y.0)) (Cmp_shown op x.0 y.0 at x.1 y.1)
+  expr_step (Expr-F.Member at x set) = subst (ExprShown s) (sym (e.rolls-Member at x.0 set.0)) (Member_shown x.0 set.0 at x.1 set.1)
+  expr_step (Expr-F.Not at x) = subst (ExprShown s) (sym (e.rolls-Not at x.0)) (Not_shown x.0 at x.1)
+  expr_step (Expr-F.And at x y) = subst (ExprShown s) (sym (e.rolls-And at x.0 y.0)) (And_shown x.0 y.0 at x.1 y.1)
+  expr_step (Expr-F.Or at x y) = subst (ExprShown s) (sym (e.rolls-Or at x.0 y.0)) (Or_shown x.0 y.0 at x.1 y.1)
+  expr_step (Expr-F.IfE at c x y) = subst (ExprShown s) (sym (e.rolls-IfE at c.0 x.0 y.0)) (IfE_shown c.0 x.0 y.0 at c.1 x.1 y.1)
+  expr_step (Expr-F.MatchE at x y (v, z)) = subst (ExprShown s) (sym (e.rolls-MatchE at x.0 y.0 (v, z.0))) (MatchE_shown x.0 y.0 v z.0 at x.1 y.1 z.1)
 
   set_step : (y : SetExpr-F SureExpr (SureItem s) SureSet (SureFilter s))
       → SetShown s (roll-SetExpr (map-SetExpr SureExpr (SureItem s) SureSet (SureFilter s) tree.Expr Item tree_set.SetExpr Filter (λ e. e.0) (λ e. e.0) (λ e. e.0) (λ e. e.0) y))
-  set_step (SetExpr-F.Everyone word at) = subst (SetShown s) (sym (se.rolls-Everyone word at)) (Everyone_shown word at)
+  set_step (SetExpr-F.Everyone at word) = subst (SetShown s) (sym (se.rolls-Everyone at word)) (Everyone_shown word at)
   set_step (SetExpr-F.Nobody at) = subst (SetShown s) (sym (se.rolls-Nobody at)) (Nobody_shown at)
-  set_step (SetExpr-F.Sum x y at) = subst (SetShown s) (sym (se.rolls-Sum x.0 y.0 at)) (Sum_shown x.0 y.0 at x.1 y.1)
-  set_step (SetExpr-F.Less x y at) = subst (SetShown s) (sym (se.rolls-Less x.0 y.0 at)) (Less_shown x.0 y.0 at x.1 y.1)
-  set_step (SetExpr-F.Path x at) = subst (SetShown s) (sym (se.rolls-Path x.0 at)) (Path_shown x.0 at x.1)
-  set_step (SetExpr-F.MapS x v y at) = subst (SetShown s) (sym (se.rolls-MapS x.0 v y.0 at)) (MapS_shown x.0 v y.0 at x.1 y.1)
-  set_step (SetExpr-F.FlatS x v y at) = subst (SetShown s) (sym (se.rolls-FlatS x.0 v y.0 at)) (FlatS_shown x.0 v y.0 at x.1 y.1)
-  set_step (SetExpr-F.IfS c x y at) = subst (SetShown s) (sym (se.rolls-IfS c.0 x.0 y.0 at)) (IfS_shown c.0 x.0 y.0 at c.1 x.1 y.1)
-  set_step (SetExpr-F.MatchS x y v z at) = subst (SetShown s) (sym (se.rolls-MatchS x.0 y.0 v z.0 at)) (MatchS_shown x.0 y.0 v z.0 at x.1 y.1 z.1)
-  set_step (SetExpr-F.List xs at) = subst (SetShown s) (sym (se.rolls-List (map (λ (x : SureItem s). x.0) xs) at)) (List_shown xs at)
-  set_step (SetExpr-F.Find model xs at) = subst (SetShown s) (sym (se.rolls-Find model (map (λ (x : SureFilter s). x.0) xs) at)) (Find_shown model xs at)
+  set_step (SetExpr-F.Sum at x y) = subst (SetShown s) (sym (se.rolls-Sum at x.0 y.0)) (Sum_shown x.0 y.0 at x.1 y.1)
+  set_step (SetExpr-F.Less at x y) = subst (SetShown s) (sym (se.rolls-Less at x.0 y.0)) (Less_shown x.0 y.0 at x.1 y.1)
+  set_step (SetExpr-F.Path at x) = subst (SetShown s) (sym (se.rolls-Path at x.0)) (Path_shown x.0 at x.1)
+  set_step (SetExpr-F.MapS at x v y) = subst (SetShown s) (sym (se.rolls-MapS at x.0 v y.0)) (MapS_shown x.0 v y.0 at x.1 y.1)
+  set_step (SetExpr-F.FlatS at x v y) = subst (SetShown s) (sym (se.rolls-FlatS at x.0 v y.0)) (FlatS_shown x.0 v y.0 at x.1 y.1)
+  set_step (SetExpr-F.IfS at c x y) = subst (SetShown s) (sym (se.rolls-IfS at c.0 x.0 y.0)) (IfS_shown c.0 x.0 y.0 at c.1 x.1 y.1)
+  set_step (SetExpr-F.MatchS at x y v z) = subst (SetShown s) (sym (se.rolls-MatchS at x.0 y.0 v z.0)) (MatchS_shown x.0 y.0 v z.0 at x.1 y.1 z.1)
+  set_step (SetExpr-F.List at xs) = subst (SetShown s) (sym (se.rolls-List at (map (λ (x : SureItem s). x.0) xs))) (List_shown xs at)
+  set_step (SetExpr-F.Find at model xs) = subst (SetShown s) (sym (se.rolls-Find at model (map (λ (x : SureFilter s). x.0) xs))) (Find_shown model xs at)
 
   item_step : (y : Item-F SureExpr (SureItem s) SureSet (SureFilter s))
       → ItemShown s (roll-Item (map-Item SureExpr (SureItem s) SureSet (SureFilter s) tree.Expr Item tree_set.SetExpr Filter (λ e. e.0) (λ e. e.0) (λ e. e.0) (λ e. e.0) y))

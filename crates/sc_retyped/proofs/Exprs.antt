@@ -92,23 +92,23 @@ module _ (s : Schema) where
       → Comes vars alone ty x y
   comes vars alone ty x y made is saw = (of_type 0 ty made, is ∙ fit alone 0 ty made, saw, refl)
 
-  pub Flag-comes : (vars : List Var) (alone b : Bool) → Comes vars alone (Plain base.Bool) (e.Flag b 0) (flag b)
+  pub Flag-comes : (vars : List Var) (alone b : Bool) → Comes vars alone (Plain base.Bool) (e.Flag 0 b) (flag b)
   Flag-comes vars alone b = comes vars alone (Plain base.Bool) _ _ (t.Flag b) (form.Flag_is s vars _ b 0) (seen.Flag_seen b)
 
-  pub Num-comes : (vars : List Var) (alone : Bool) (n : ℤ) → Comes vars alone (Plain base.Int) (e.Num n 0) (num n)
+  pub Num-comes : (vars : List Var) (alone : Bool) (n : ℤ) → Comes vars alone (Plain base.Int) (e.Num 0 n) (num n)
   Num-comes vars alone n = comes vars alone (Plain base.Int) _ _ (t.Num n) (form.Num_is s vars _ n 0) (seen.Num_seen n)
 
-  pub Str-comes : (vars : List Var) (alone : Bool) (text : List ℕ) → Comes vars alone (Plain base.Text) (e.Str text 0) (str text)
+  pub Str-comes : (vars : List Var) (alone : Bool) (text : List ℕ) → Comes vars alone (Plain base.Text) (e.Str 0 text) (str text)
   Str-comes vars alone text = comes vars alone (Plain base.Text) _ _ (t.Str text) (form.Str_is s vars _ text 0) (seen.Str_seen text)
 
-  pub Var-comes : (vars : List Var) (alone : Bool) (ty : TTy) (depth : ℕ) (name : Name) → var_named vars name ≡ Some (depth, ty) → Comes vars alone ty (e.Var (named name) 0) (var depth name)
+  pub Var-comes : (vars : List Var) (alone : Bool) (ty : TTy) (depth : ℕ) (name : Name) → var_named vars name ≡ Some (depth, ty) → Comes vars alone ty (e.Var 0 (named name)) (var depth name)
   Var-comes vars alone ty depth name is =
       comes vars alone ty _ _ (t.Var depth name) (then-ok _ _ (depth, ty) _ (form.Var_is s vars _ (named name) 0) (ap (λ o. or_else o (Unknown 0)) is)) (seen.Var_seen depth name)
 
   pub None-comes : (vars : List Var) (b : TBase) → Comes vars false (Opt b) (e.NoneLit 0) nothing
   None-comes vars b = (of_type 0 (Opt b) t.NoneLit, form.NoneLit_is s vars _ 0 ∙ none-is b, seen.NoneLit_seen, refl)
 
-  pub Some-comes : (vars : List Var) (alone : Bool) (b : TBase) (x : tree.Expr) (y : Expr) → Comes vars alone (Plain b) x y → Comes vars alone (Opt b) (e.SomeLit x 0) (just y)
+  pub Some-comes : (vars : List Var) (alone : Bool) (b : TBase) (x : tree.Expr) (y : Expr) → Comes vars alone (Plain b) x y → Comes vars alone (Opt b) (e.SomeLit 0 x) (just y)
   Some-comes vars alone b x y k =
       let inner : typed_expr s vars (inner_asked (place alone (Opt b))) x ≡ Ok k.0 = ap (λ o. typed_expr s vars o x) (inner-place alone b) ∙ k.1 in
       let one = then-ok _ _ k.0 _ (form.SomeLit_is s vars (place alone (Opt b)) x 0) inner in
@@ -122,7 +122,7 @@ module _ (s : Schema) where
       ap (λ of. field_of_record s of r.at (named name)) is ∙ ap (λ o. or_else o (Unknown 0) >>= (λ (field : ℕ × TTy). Ok (m, field.0, field.1))) has
 
   pub Get-comes : (vars : List Var) (alone : Bool) (m : ℕ) (name : Name) (f : ℕ) (ty : TTy) (x : tree.Expr) (y : Expr) → field_named s m name ≡ Some (f, ty)
-      → Comes vars true (Plain (base.Id m)) x y → Comes vars alone ty (e.Get x (named name) 0) (get y m f)
+      → Comes vars true (Plain (base.Id m)) x y → Comes vars alone ty (e.Get 0 x (named name)) (get y m f)
   Get-comes vars alone m name f ty x y has k =
       let one = then-ok _ _ k.0 _ (form.Get_is s vars (place alone ty) x (named name) 0) k.1 in
       comes vars alone ty _ _ (t.Get k.0.tree m f) (then-ok _ _ (m, f, ty) _ one (record-field k.0 m name f ty k.3 has)) (seen.Get_seen k.0.tree m f ∙ ap (λ z. get z m f) k.2)
@@ -130,7 +130,7 @@ module _ (s : Schema) where
   -- ---- comparisons
 
   compared-comes : (vars : List Var) (alone : Bool) (op : CmpOp) (b : TBase) (x y : tree.Expr) (l r : Typed) (z : Expr) → typed_expr s vars (left_asked op) x ≡ Ok l → l.ty ≡ Plain b
-      → typed_expr s vars (Some (Plain b)) y ≡ Ok r → expr_of (compared op b l.tree r.tree) ≡ z → Comes vars alone (Plain base.Bool) (e.Cmp op x y 0) z
+      → typed_expr s vars (Some (Plain b)) y ≡ Ok r → expr_of (compared op b l.tree r.tree) ≡ z → Comes vars alone (Plain base.Bool) (e.Cmp 0 op x y) z
   compared-comes vars alone op b x y l r z left is right saw =
       let one = then-ok _ _ l _ (form.Cmp_is s vars (place alone (Plain base.Bool)) op x y 0) left in
       let two = then-ok _ _ b _ one (base-is l b is) in
@@ -161,12 +161,12 @@ module _ (s : Schema) where
   both-same made a b c d p q = ap (λ z. made z b) p ∙ ap (λ z. made c z) q
 
   pub Eq-comes : (vars : List Var) (alone : Bool) (b : TBase) (made : Expr → Expr → Expr) (x y : tree.Expr) (v w : Expr) → Alike Eq b made → Comes vars true (Plain b) x v → Comes vars false (Plain b) y w
-      → Comes vars alone (Plain base.Bool) (e.Cmp Eq x y 0) (made v w)
+      → Comes vars alone (Plain base.Bool) (e.Cmp 0 Eq x y) (made v w)
   Eq-comes vars alone b made x y v w saw k l =
       compared-comes vars alone Eq b x y k.0 l.0 _ (equal-left vars x ∙ k.1) k.3 l.1 (eq-seen b made saw k.0.tree l.0.tree ∙ both-same made _ _ v w k.2 l.2)
 
   pub Ne-comes : (vars : List Var) (alone : Bool) (b : TBase) (made : Expr → Expr → Expr) (x y : tree.Expr) (v w : Expr) → Alike Ne b made → Comes vars true (Plain b) x v → Comes vars false (Plain b) y w
-      → Comes vars alone (Plain base.Bool) (e.Cmp Ne x y 0) (negation (made v w))
+      → Comes vars alone (Plain base.Bool) (e.Cmp 0 Ne x y) (negation (made v w))
   Ne-comes vars alone b made x y v w saw k l =
       compared-comes vars alone Ne b x y k.0 l.0 _ (unlike-left vars x ∙ k.1) k.3 l.1 (ne-seen b made saw k.0.tree l.0.tree ∙ ap negation (both-same made _ _ v w k.2 l.2))
 
@@ -189,23 +189,23 @@ module _ (s : Schema) where
   abbrev int : TTy
   int = Plain base.Int
 
-  pub Lt-comes : (vars : List Var) (alone : Bool) (x y : tree.Expr) (v w : Expr) → Comes vars false int x v → Comes vars false int y w → Comes vars alone (Plain base.Bool) (e.Cmp Lt x y 0) (less v w Lt)
+  pub Lt-comes : (vars : List Var) (alone : Bool) (x y : tree.Expr) (v w : Expr) → Comes vars false int x v → Comes vars false int y w → Comes vars alone (Plain base.Bool) (e.Cmp 0 Lt x y) (less v w Lt)
   unfolding left_asked compared
   Lt-comes vars alone x y v w k l =
       compared-comes vars alone Lt base.Int x y k.0 l.0 _ k.1 k.3 l.1 (seen.Less_seen k.0.tree l.0.tree Lt ∙ both-same (λ a b. less a b Lt) _ _ v w k.2 l.2)
 
-  pub Le-comes : (vars : List Var) (alone : Bool) (x y : tree.Expr) (v w : Expr) → Comes vars false int x v → Comes vars false int y w → Comes vars alone (Plain base.Bool) (e.Cmp Le y x 0) (negation (less v w Le))
+  pub Le-comes : (vars : List Var) (alone : Bool) (x y : tree.Expr) (v w : Expr) → Comes vars false int x v → Comes vars false int y w → Comes vars alone (Plain base.Bool) (e.Cmp 0 Le y x) (negation (less v w Le))
   unfolding left_asked compared
   Le-comes vars alone x y v w k l =
       compared-comes vars alone Le base.Int y x l.0 k.0 _ l.1 l.3 k.1
       (seen.Not_seen (t.Less k.0.tree l.0.tree Le) ∙ ap negation (seen.Less_seen k.0.tree l.0.tree Le ∙ both-same (λ a b. less a b Le) _ _ v w k.2 l.2))
 
-  pub Gt-comes : (vars : List Var) (alone : Bool) (x y : tree.Expr) (v w : Expr) → Comes vars false int x v → Comes vars false int y w → Comes vars alone (Plain base.Bool) (e.Cmp Gt y x 0) (less v w Gt)
+  pub Gt-comes : (vars : List Var) (alone : Bool) (x y : tree.Expr) (v w : Expr) → Comes vars false int x v → Comes vars false int y w → Comes vars alone (Plain base.Bool) (e.Cmp 0 Gt y x) (less v w Gt)
   unfolding left_asked compared
   Gt-comes vars alone x y v w k l =
       compared-comes vars alone Gt base.Int y x l.0 k.0 _ l.1 l.3 k.1 (seen.Less_seen k.0.tree l.0.tree Gt ∙ both-same (λ a b. less a b Gt) _ _ v w k.2 l.2)
 
-  pub Ge-comes : (vars : List Var) (alone : Bool) (x y : tree.Expr) (v w : Expr) → Comes vars false int x v → Comes vars false int y w → Comes vars alone (Plain base.Bool) (e.Cmp Ge x y 0) (negation (less v w Ge))
+  pub Ge-comes : (vars : List Var) (alone : Bool) (x y : tree.Expr) (v w : Expr) → Comes vars false int x v → Comes vars false int y w → Comes vars alone (Plain base.Bool) (e.Cmp 0 Ge x y) (negation (less v w Ge))
   unfolding left_asked compared
   Ge-comes vars alone x y v w k l =
       compared-comes vars alone Ge base.Int x y k.0 l.0 _ k.1 k.3 l.1
@@ -214,25 +214,25 @@ module _ (s : Schema) where
   -- ---- truth values
 
   pub Member-comes : (vars : List Var) (alone : Bool) (m : ℕ) (x : tree.Expr) (set : tree_set.SetExpr) (y : Expr) (z : SetExpr) → Comes vars true (Plain (base.Id m)) x y → SetComes vars (Records m) set z
-      → Comes vars alone (Plain base.Bool) (e.Member x set 0) (within y m z)
+      → Comes vars alone (Plain base.Bool) (e.Member 0 x set) (within y m z)
   Member-comes vars alone m x set y z k l =
       let one = then-ok _ _ k.0 _ (form.Member_is s vars (place alone (Plain base.Bool)) x set 0) k.1 in
       let two = then-ok _ _ m _ one (id-is k.0 m k.3) in
       comes vars alone (Plain base.Bool) _ _ (t.Member k.0.tree m l.0) (then-ok _ _ l.0 _ two l.1)
       (seen.Member_seen k.0.tree m l.0 ∙ ap (λ a. within a m (set_of l.0)) k.2 ∙ ap (λ a. within y m a) l.2)
 
-  pub Not-comes : (vars : List Var) (alone : Bool) (x : tree.Expr) (y : Expr) → Comes vars false (Plain base.Bool) x y → Comes vars alone (Plain base.Bool) (e.Not x 0) (negation y)
+  pub Not-comes : (vars : List Var) (alone : Bool) (x : tree.Expr) (y : Expr) → Comes vars false (Plain base.Bool) x y → Comes vars alone (Plain base.Bool) (e.Not 0 x) (negation y)
   Not-comes vars alone x y k =
       comes vars alone (Plain base.Bool) _ _ (t.Not k.0.tree) (then-ok _ _ k.0 _ (form.Not_is s vars (place alone (Plain base.Bool)) x 0) k.1) (seen.Not_seen k.0.tree ∙ ap negation k.2)
 
   pub And-comes : (vars : List Var) (alone : Bool) (x y : tree.Expr) (v w : Expr) → Comes vars false (Plain base.Bool) x v → Comes vars false (Plain base.Bool) y w
-      → Comes vars alone (Plain base.Bool) (e.And x y 0) (both v w)
+      → Comes vars alone (Plain base.Bool) (e.And 0 x y) (both v w)
   And-comes vars alone x y v w k l =
       let one = then-ok _ _ k.0 _ (form.And_is s vars (place alone (Plain base.Bool)) x y 0) k.1 in
       comes vars alone (Plain base.Bool) _ _ (t.And k.0.tree l.0.tree) (then-ok _ _ l.0 _ one l.1) (seen.And_seen k.0.tree l.0.tree ∙ both-same both _ _ v w k.2 l.2)
 
   pub Or-comes : (vars : List Var) (alone : Bool) (x y : tree.Expr) (v w : Expr) → Comes vars false (Plain base.Bool) x v → Comes vars false (Plain base.Bool) y w
-      → Comes vars alone (Plain base.Bool) (e.Or x y 0) (either v w)
+      → Comes vars alone (Plain base.Bool) (e.Or 0 x y) (either v w)
   Or-comes vars alone x y v w k l =
       let one = then-ok _ _ k.0 _ (form.Or_is s vars (place alone (Plain base.Bool)) x y 0) k.1 in
       comes vars alone (Plain base.Bool) _ _ (t.Or k.0.tree l.0.tree) (then-ok _ _ l.0 _ one l.1) (seen.Or_seen k.0.tree l.0.tree ∙ both-same either _ _ v w k.2 l.2)
@@ -240,7 +240,7 @@ module _ (s : Schema) where
   -- ---- choices
 
   pub If-comes : (vars : List Var) (alone : Bool) (ty : TTy) (c x y : tree.Expr) (u v w : Expr) → Comes vars false (Plain base.Bool) c u → Comes vars alone ty x v → Comes vars false ty y w
-      → Comes vars alone ty (e.IfE c x y 0) (if_expr u v w)
+      → Comes vars alone ty (e.IfE 0 c x y) (if_expr u v w)
   If-comes vars alone ty c x y u v w h k l =
       let one = then-ok _ _ h.0 _ (form.IfE_is s vars (place alone ty) c x y 0) h.1 in
       let two = then-ok _ _ k.0 _ one k.1 in
@@ -252,7 +252,7 @@ module _ (s : Schema) where
       )
 
   pub Match-comes : (vars inner : List Var) (alone : Bool) (b : TBase) (name : Name) (ty : TTy) (x y z : tree.Expr) (u v w : Expr) → under vars (named name) (Plain b) ≡ Ok inner
-      → Comes vars true (Opt b) x u → Comes vars alone ty y v → Comes inner false ty z w → Comes vars alone ty (e.MatchE x y (named name) z 0) (match_expr u v name w)
+      → Comes vars true (Opt b) x u → Comes vars alone ty y v → Comes inner false ty z w → Comes vars alone ty (e.MatchE 0 x y (named name, z)) (match_expr u v name w)
   Match-comes vars inner alone b name ty x y z u v w new h k l =
       let one = then-ok _ _ h.0 _ (form.MatchE_is s vars (place alone ty) x y (named name) z 0) h.1 in
       let two = then-ok _ _ b _ one (option-is h.0 b h.3) in

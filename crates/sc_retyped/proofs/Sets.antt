@@ -90,19 +90,19 @@ module _ (s : Schema) where
   pub Nobody-comes : (vars : List Var) (content : Content) → SetComes s vars content (se.Nobody 0) nobody
   Nobody-comes vars content = (ts.Nobody, form.Nobody_is s vars content 0, seen.Nobody_seen)
 
-  pub List-comes : (vars : List Var) (content : Content) (xs : List Item) (y : Items) → ItemsCome vars content xs y → SetComes s vars content (se.List xs 0) (listed y)
+  pub List-comes : (vars : List Var) (content : Content) (xs : List Item) (y : Items) → ItemsCome vars content xs y → SetComes s vars content (se.List 0 xs) (listed y)
   List-comes vars content xs y k =
       (ts.List k.0, then-ok _ _ k.0 _ (form.List_is s vars content xs 0) (each-all (typed_item s vars content) xs [] k.0 k.1), seen.List_seen k.0 ∙ ap listed k.2)
 
   both-sets : (made : SetExpr → SetExpr → SetExpr) (a b c d : SetExpr) → a ≡ c → b ≡ d → made a b ≡ made c d
   both-sets made a b c d p q = ap (λ z. made z b) p ∙ ap (λ z. made c z) q
 
-  pub Sum-comes : (vars : List Var) (content : Content) (x y : tree_set.SetExpr) (v w : SetExpr) → SetComes s vars content x v → SetComes s vars content y w → SetComes s vars content (se.Sum x y 0) (union v w)
+  pub Sum-comes : (vars : List Var) (content : Content) (x y : tree_set.SetExpr) (v w : SetExpr) → SetComes s vars content x v → SetComes s vars content y w → SetComes s vars content (se.Sum 0 x y) (union v w)
   Sum-comes vars content x y v w k l =
       let one = then-ok _ _ k.0 _ (form.Sum_is s vars content x y 0) k.1 in
       (ts.Sum k.0 l.0, then-ok _ _ l.0 _ one l.1, seen.Sum_seen k.0 l.0 ∙ both-sets union _ _ v w k.2 l.2)
 
-  pub Less-comes : (vars : List Var) (content : Content) (x y : tree_set.SetExpr) (v w : SetExpr) → SetComes s vars content x v → SetComes s vars content y w → SetComes s vars content (se.Less x y 0) (minus v w)
+  pub Less-comes : (vars : List Var) (content : Content) (x y : tree_set.SetExpr) (v w : SetExpr) → SetComes s vars content x v → SetComes s vars content y w → SetComes s vars content (se.Less 0 x y) (minus v w)
   Less-comes vars content x y v w k l =
       let one = then-ok _ _ k.0 _ (form.Less_is s vars content x y 0) k.1 in
       (ts.Less k.0 l.0, then-ok _ _ l.0 _ one l.1, seen.Minus_seen k.0 l.0 ∙ both-sets minus _ _ v w k.2 l.2)
@@ -115,22 +115,22 @@ module _ (s : Schema) where
       let there : may_hold s content k.0.model k.0.at ≡ Ok tt = ap (λ n. may_hold s content n k.0.at) k.3 ∙ held k.0.at in
       (k.0.set, then-ok _ _ tt _ one there, k.2)
 
-  pub Find-source : (vars : List Var) (m : ℕ) (name : Name) (xs : List Filter) (y : Filters) → model_named s name ≡ Some m → FiltersCome vars m xs y → SourceComes vars m (se.Find (named name) xs 0) (find m y)
+  pub Find-source : (vars : List Var) (m : ℕ) (name : Name) (xs : List Filter) (y : Filters) → model_named s name ≡ Some m → FiltersCome vars m xs y → SourceComes vars m (se.Find 0 (named name) xs) (find m y)
   Find-source vars m name xs y has k =
       let one = then-ok _ _ m _ (form.Find_source s vars (named name) xs 0) (ap (λ o. or_else o (Unknown 0)) has) in
       let two = then-ok _ _ k.0 _ one (each-all (typed_filter s vars m) xs [] k.0 k.1) in
       (source 0 m (ts.Find m k.0), two, seen.Find_seen m k.0 ∙ ap (find m) k.2, refl)
 
-  pub Find-comes : (vars : List Var) (content : Content) (m : ℕ) (name : Name) (xs : List Filter) (y : SetExpr) → Held content m → SourceComes vars m (se.Find (named name) xs 0) y
-      → SetComes s vars content (se.Find (named name) xs 0) y
+  pub Find-comes : (vars : List Var) (content : Content) (m : ℕ) (name : Name) (xs : List Filter) (y : SetExpr) → Held content m → SourceComes vars m (se.Find 0 (named name) xs) y
+      → SetComes s vars content (se.Find 0 (named name) xs) y
   Find-comes vars content m name xs y held k = chain-comes vars content m _ y held k (form.Find_is s vars content (named name) xs 0)
 
-  pub Path-source : (vars : List Var) (m : ℕ) (x : tree.Expr) (y : Expr) → Comes s vars true (Set m) x y → SourceComes vars m (se.Path x 0) (path m y)
+  pub Path-source : (vars : List Var) (m : ℕ) (x : tree.Expr) (y : Expr) → Comes s vars true (Set m) x y → SourceComes vars m (se.Path 0 x) (path m y)
   Path-source vars m x y k =
       let one = then-ok _ _ k.0 _ (form.Path_source s vars x 0) k.1 in
       (source k.0.at m (ts.Path m k.0.tree), then-ok _ _ m _ one (set-is k.0 m k.3), seen.Path_seen m k.0.tree ∙ ap (path m) k.2, refl)
 
-  pub Path-comes : (vars : List Var) (content : Content) (m : ℕ) (x : tree.Expr) (y : SetExpr) → Held content m → SourceComes vars m (se.Path x 0) y → SetComes s vars content (se.Path x 0) y
+  pub Path-comes : (vars : List Var) (content : Content) (m : ℕ) (x : tree.Expr) (y : SetExpr) → Held content m → SourceComes vars m (se.Path 0 x) y → SetComes s vars content (se.Path 0 x) y
   Path-comes vars content m x y held k = chain-comes vars content m _ y held k (form.Path_is s vars content x 0)
 
   -- one more variable, a record of the model of a chain
@@ -138,7 +138,7 @@ module _ (s : Schema) where
   record-under vars inner name m n same is = ap (λ k. under vars (named name) (Plain (base.Id k))) same ∙ is
 
   pub Map-source : (vars inner : List Var) (n m : ℕ) (name : Name) (x : tree_set.SetExpr) (y : tree.Expr) (v : SetExpr) (w : Expr) → under vars (named name) (Plain (base.Id n)) ≡ Ok inner
-      → SourceComes vars n x v → Comes s inner true (Plain (base.Id m)) y w → SourceComes vars m (se.MapS x (named name) y 0) (mapped v n name m w)
+      → SourceComes vars n x v → Comes s inner true (Plain (base.Id m)) y w → SourceComes vars m (se.MapS 0 x (named name) y) (mapped v n name m w)
   Map-source vars inner n m name x y v w new k l =
       let one = then-ok _ _ k.0 _ (form.MapS_source s vars x (named name) y 0) k.1 in
       let two = then-ok _ _ inner _ one (record-under vars inner name k.0.model n k.3 new) in
@@ -152,12 +152,12 @@ module _ (s : Schema) where
         refl,
       )
 
-  pub Map-comes : (vars : List Var) (content : Content) (m : ℕ) (name : Name) (x : tree_set.SetExpr) (y : tree.Expr) (z : SetExpr) → Held content m → SourceComes vars m (se.MapS x (named name) y 0) z
-      → SetComes s vars content (se.MapS x (named name) y 0) z
+  pub Map-comes : (vars : List Var) (content : Content) (m : ℕ) (name : Name) (x : tree_set.SetExpr) (y : tree.Expr) (z : SetExpr) → Held content m → SourceComes vars m (se.MapS 0 x (named name) y) z
+      → SetComes s vars content (se.MapS 0 x (named name) y) z
   Map-comes vars content m name x y z held k = chain-comes vars content m _ z held k (form.MapS_is s vars content x (named name) y 0)
 
   pub Flat-comes : (vars inner : List Var) (content : Content) (n : ℕ) (name : Name) (x y : tree_set.SetExpr) (v w : SetExpr) → under vars (named name) (Plain (base.Id n)) ≡ Ok inner
-      → SourceComes vars n x v → SetComes s inner content y w → SetComes s vars content (se.FlatS x (named name) y 0) (flat_mapped v n name w)
+      → SourceComes vars n x v → SetComes s inner content y w → SetComes s vars content (se.FlatS 0 x (named name) y) (flat_mapped v n name w)
   Flat-comes vars inner content n name x y v w new k l =
       let one = then-ok _ _ k.0 _ (form.FlatS_is s vars content x (named name) y 0) k.1 in
       let two = then-ok _ _ inner _ one (record-under vars inner name k.0.model n k.3 new) in (
@@ -170,7 +170,7 @@ module _ (s : Schema) where
       )
 
   pub IfS-comes : (vars : List Var) (content : Content) (c : tree.Expr) (x y : tree_set.SetExpr) (u : Expr) (v w : SetExpr) → Comes s vars false (Plain base.Bool) c u
-      → SetComes s vars content x v → SetComes s vars content y w → SetComes s vars content (se.IfS c x y 0) (if_set u v w)
+      → SetComes s vars content x v → SetComes s vars content y w → SetComes s vars content (se.IfS 0 c x y) (if_set u v w)
   IfS-comes vars content c x y u v w h k l =
       let one = then-ok _ _ h.0 _ (form.IfS_is s vars content c x y 0) h.1 in
       let two = then-ok _ _ k.0 _ one k.1 in (
@@ -180,7 +180,7 @@ module _ (s : Schema) where
       )
 
   pub MatchS-comes : (vars inner : List Var) (content : Content) (b : TBase) (name : Name) (x : tree.Expr) (y z : tree_set.SetExpr) (u : Expr) (v w : SetExpr) → under vars (named name) (Plain b) ≡ Ok inner
-      → Comes s vars true (Opt b) x u → SetComes s vars content y v → SetComes s inner content z w → SetComes s vars content (se.MatchS x y (named name) z 0) (match_set u v name w)
+      → Comes s vars true (Opt b) x u → SetComes s vars content y v → SetComes s inner content z w → SetComes s vars content (se.MatchS 0 x y (named name) z) (match_set u v name w)
   MatchS-comes vars inner content b name x y z u v w new h k l =
       let one = then-ok _ _ h.0 _ (form.MatchS_is s vars content x y (named name) z 0) h.1 in
       let two = then-ok _ _ b _ one (option-is h.0 b h.3) in

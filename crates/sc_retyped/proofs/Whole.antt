@@ -75,7 +75,7 @@ module _ (s t : Schema) (n : Names) (found : IsFound s t n) where
 
   module _ (vars : List Var) (alone : Bool) (x y : tree.Expr) (v w : Expr) where
     equal-signed : (b : TBase) (made : CmpOp → Expr → Expr → Expr) → ((op : CmpOp) → Alike t op b (made op)) → (op : CmpOp) → IsEquality op → Comes t vars true (Plain b) x v → Comes t vars false (Plain b) y w
-        → Comes t vars alone (Plain base.Bool) (e.Cmp op x y 0) (wrapped (is_negative op) (made op v w))
+        → Comes t vars alone (Plain base.Bool) (e.Cmp 0 op x y) (wrapped (is_negative op) (made op v w))
     equal-signed b made alike Eq is k l = of.Eq-comes t vars alone b (made Eq) x y v w (alike Eq) k l
     equal-signed b made alike Ne is k l = of.Ne-comes t vars alone b (made Ne) x y v w (alike Ne) k l
     equal-signed b made alike Lt is k l = absurd is
@@ -94,7 +94,7 @@ module _ (s t : Schema) (n : Names) (found : IsFound s t n) where
 
   -- below a negation that its sign says, or not
   negated : (vars : List Var) (alone : Bool) (x : tree.Expr) (y : Expr) (b : Bool) → Comes t vars alone (Plain base.Bool) x (wrapped b y) → Comes t vars false (Plain base.Bool) x (wrapped b y)
-      → Comes t vars alone (Plain base.Bool) (if b then x else e.Not x 0) (negation y)
+      → Comes t vars alone (Plain base.Bool) (if b then x else e.Not 0 x) (negation y)
   negated vars alone x y true here below = here
   negated vars alone x y false here below = of.Not-comes t vars alone x y below
 

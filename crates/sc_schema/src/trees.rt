@@ -32,7 +32,7 @@ pub enum TExpr {
     /// `if`, `then`, `else`.
     IfE(Boxed<TExpr>, Boxed<TExpr>, Boxed<TExpr>),
     /// The option, what stands for `none`, the variable, and what stands for `some`.
-    MatchE(Boxed<TExpr>, Boxed<TExpr>, Name, Boxed<TExpr>),
+    MatchE(Boxed<TExpr>, Boxed<TExpr>, Boxed<Name>, Boxed<TExpr>),
 }
 
 /// An item of a list.
@@ -66,11 +66,11 @@ pub enum TSet {
     /// The records of the model that a set field holds.
     Path(ModelNo, TExpr),
     /// The source, its model, the variable, and the model and the expression of the records.
-    MapS(Boxed<TSet>, ModelNo, Name, ModelNo, TExpr),
+    MapS(Boxed<TSet>, ModelNo, Boxed<Name>, ModelNo, Boxed<TExpr>),
     /// The source, its model, the variable and the set.
-    FlatS(Boxed<TSet>, ModelNo, Name, Boxed<TSet>),
-    IfS(TExpr, Boxed<TSet>, Boxed<TSet>),
-    MatchS(TExpr, Boxed<TSet>, Name, Boxed<TSet>),
+    FlatS(Boxed<TSet>, ModelNo, Boxed<Name>, Boxed<TSet>),
+    IfS(Boxed<TExpr>, Boxed<TSet>, Boxed<TSet>),
+    MatchS(Boxed<TExpr>, Boxed<TSet>, Boxed<Name>, Boxed<TSet>),
 }
 
 /// Who is allowed a right on a record.

@@ -108,7 +108,7 @@ impl Heap {
         self.places[var as usize] = place as u32;
     }
 
-    /// Moves the variable at a place up, before those with smaller scores.
+    /// Moves the variable at a place up, before those that come after it.
     fn lift(&mut self, start: usize, scores: &[u64])
         requires start { start < self.old }
         requires one_each { length scores.now ≡ self.old }
@@ -128,7 +128,7 @@ impl Heap {
         self.put(place, var);
     }
 
-    /// Moves the first variable down, behind those with larger scores.
+    /// Moves the first variable down, behind those that come before it.
     fn sink(&mut self, scores: &[u64])
         requires some { 0 < self.old }
         requires one_each { length scores.now ≡ self.old }

@@ -41,10 +41,10 @@ pub enum Prop {
 ///
 /// An assignment is lawful where it meets each clause and the literals of all atoms, each the one
 /// for its variable's value, have a model. All memory but that of clauses which are added is taken
-/// by `new` or `with_clauses`. The search learns a clause from each conflict and goes back over the decisions that
-/// had no part in it: Marques-Silva and Sakallah, "GRASP: a search algorithm for propositional
-/// satisfiability" (1999). Variables can also be assumed, and what follows from the clauses then be
-/// set, with no search and no theory.
+/// by `new` or `with_clauses`. The search learns a clause from each conflict and goes back over the
+/// decisions that had no part in it: Marques-Silva and Sakallah, "GRASP: a search algorithm for
+/// propositional satisfiability" (1999). Variables can also be assumed, and what follows from the
+/// clauses then be set, with no search and no theory.
 #[derive(Drop)]
 pub struct Solver<T: Theory> {
     learner: Learner<T>,

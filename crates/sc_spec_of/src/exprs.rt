@@ -4,12 +4,14 @@ ghost use Rattle.std.specs.Prelude.{◌≡◌, ◌∷◌, ◌++◌, IfOk, map};
 ghost use Rattle.sc_schema.specs.SchemaViews.{schema_of};
 ghost use Rattle.sc_schema.specs.Trees as plain;
 ghost use Rattle.sc_schema.specs.Views as view;
+ghost use Rattle.sc_written.specs.Names as spec;
 ghost use Rattle.sc_written.specs.Names.{names_in};
 ghost use Rattle.sc_written.specs.Trees as rule;
 
 use crate::names::{field_name, model_name, named, static_name};
+use sc_ast::Name;
 use sc_schema::{ModelNo, Schema, TExpr, TFilter, TItem, TSet};
-use sc_tree::{CmpOp, Expr, Filter, Item, SetExpr};
+use sc_tree::{CmpOp, Expr, Filter, Item, Named, SetExpr};
 use sqlite_items::{Boxed, Items};
 use std::alloc::{AllocError, Global};
 
@@ -50,9 +52,17 @@ fn ordered(op: CmpOp, low: Boxed<Expr>, high: Boxed<Expr>) -> Expr
     ensures { result ≡ rule.sides op low high }
 {
     match op {
-        CmpOp::Le | CmpOp::Gt => Expr::Cmp(op, high, low, 0),
-        CmpOp::Eq | CmpOp::Ne | CmpOp::Lt | CmpOp::Ge => Expr::Cmp(op, low, high, 0),
+        CmpOp::Le | CmpOp::Gt => Expr::Cmp(0, op, high, low),
+        CmpOp::Eq | CmpOp::Ne | CmpOp::Lt | CmpOp::Ge => Expr::Cmp(0, op, low, high),
     }
+}
+
+/// The name in a tree, in a box.
+fn boxed_name(alloc: Global, name: &Name) -> Result<Boxed<Named>, AllocError>
+    ensures { IfOk result (λ x. x ≡ spec.named name.now) }
+{
+    let x = named(alloc, name)?;
+    Boxed::new(alloc, x)
 }
 
 /// The expression in a box.
@@ -85,7 +95,7 @@ fn negation(alloc: Global, s: &Schema, inner: &TExpr) -> Result<Expr, AllocError
         written_expr(alloc, s, inner)
     } else {
         let inner = boxed_expr(alloc, s, inner)?;
-        Ok(Expr::Not(inner, 0))
+        Ok(Expr::Not(0, inner))
     }
 }
 
@@ -96,35 +106,35 @@ fn written_expr(alloc: Global, s: &Schema, e: &TExpr) -> Result<Expr, AllocError
         ≡ rule.written_expr (names_in (schema_of s.now)) (view.expr_of e.now)) }
 {
     match e {
-        TExpr::Flag(value) => Ok(Expr::Flag(*value, 0)),
-        TExpr::Num(value) => Ok(Expr::Num(*value, 0)),
+        TExpr::Flag(value) => Ok(Expr::Flag(0, *value)),
+        TExpr::Num(value) => Ok(Expr::Num(0, *value)),
         TExpr::Str(text) => {
-            let text = text.copy(alloc)?;
-            Ok(Expr::Str(text, 0))
+            let text = Boxed::new(alloc, text.copy(alloc)?)?;
+            Ok(Expr::Str(0, text))
         }
         TExpr::Var(_, name) => {
             let name = named(alloc, name)?;
-            Ok(Expr::Var(name, 0))
+            Ok(Expr::Var(0, name))
         }
         TExpr::NoneLit => Ok(Expr::NoneLit(0)),
         TExpr::SomeLit(inner) => {
             let inner = boxed_expr(alloc, s, inner.get())?;
-            Ok(Expr::SomeLit(inner, 0))
+            Ok(Expr::SomeLit(0, inner))
         }
         TExpr::Get(of, m, f) => {
-            let field = field_name(alloc, s, *m, *f)?;
+            let field = Boxed::new(alloc, field_name(alloc, s, *m, *f)?)?;
             let of = boxed_expr(alloc, s, of.get())?;
-            Ok(Expr::Get(of, field, 0))
+            Ok(Expr::Get(0, of, field))
         }
         TExpr::Eq(a, b, op) => {
             let a = boxed_expr(alloc, s, a.get())?;
             let b = boxed_expr(alloc, s, b.get())?;
-            Ok(Expr::Cmp(*op, a, b, 0))
+            Ok(Expr::Cmp(0, *op, a, b))
         }
         TExpr::Iff(a, b, op) => {
             let a = boxed_expr(alloc, s, a.get())?;
             let b = boxed_expr(alloc, s, b.get())?;
-            Ok(Expr::Cmp(*op, a, b, 0))
+            Ok(Expr::Cmp(0, *op, a, b))
         }
         TExpr::Less(a, b, op) => {
             let a = boxed_expr(alloc, s, a.get())?;
@@ -134,31 +144,32 @@ fn written_expr(alloc: Global, s: &Schema, e: &TExpr) -> Result<Expr, AllocError
         TExpr::Member(of, _, set) => {
             let of = boxed_expr(alloc, s, of.get())?;
             let set = boxed_set(alloc, s, set.get())?;
-            Ok(Expr::Member(of, set, 0))
+            Ok(Expr::Member(0, of, set))
         }
         TExpr::Not(inner) => negation(alloc, s, inner.get()),
         TExpr::And(a, b) => {
             let a = boxed_expr(alloc, s, a.get())?;
             let b = boxed_expr(alloc, s, b.get())?;
-            Ok(Expr::And(a, b, 0))
+            Ok(Expr::And(0, a, b))
         }
         TExpr::Or(a, b) => {
             let a = boxed_expr(alloc, s, a.get())?;
             let b = boxed_expr(alloc, s, b.get())?;
-            Ok(Expr::Or(a, b, 0))
+            Ok(Expr::Or(0, a, b))
         }
         TExpr::IfE(c, a, b) => {
             let c = boxed_expr(alloc, s, c.get())?;
             let a = boxed_expr(alloc, s, a.get())?;
             let b = boxed_expr(alloc, s, b.get())?;
-            Ok(Expr::IfE(c, a, b, 0))
+            Ok(Expr::IfE(0, c, a, b))
         }
         TExpr::MatchE(of, a, name, b) => {
-            let name = named(alloc, name)?;
+            let name = named(alloc, name.get())?;
             let of = boxed_expr(alloc, s, of.get())?;
             let a = boxed_expr(alloc, s, a.get())?;
-            let b = boxed_expr(alloc, s, b.get())?;
-            Ok(Expr::MatchE(of, a, name, b, 0))
+            let b = written_expr(alloc, s, b.get())?;
+            let some = Boxed::new(alloc, (name, b))?;
+            Ok(Expr::MatchE(0, of, a, some))
         }
     }
 }
@@ -251,51 +262,51 @@ pub fn written_set(alloc: Global, s: &Schema, set: &TSet) -> Result<SetExpr, All
         TSet::Nobody => Ok(SetExpr::Nobody(0)),
         TSet::List(items) => {
             let items = written_items(alloc, s, items.as_slice())?;
-            Ok(SetExpr::List(items, 0))
+            Ok(SetExpr::List(0, items))
         }
         TSet::Sum(a, b) => {
             let a = boxed_set(alloc, s, a.get())?;
             let b = boxed_set(alloc, s, b.get())?;
-            Ok(SetExpr::Sum(a, b, 0))
+            Ok(SetExpr::Sum(0, a, b))
         }
         TSet::Less(a, b) => {
             let a = boxed_set(alloc, s, a.get())?;
             let b = boxed_set(alloc, s, b.get())?;
-            Ok(SetExpr::Less(a, b, 0))
+            Ok(SetExpr::Less(0, a, b))
         }
         TSet::Find(m, filters) => {
-            let model = model_name(alloc, s, *m)?;
+            let model = Boxed::new(alloc, model_name(alloc, s, *m)?)?;
             let filters = written_filters(alloc, s, *m, filters.as_slice())?;
-            Ok(SetExpr::Find(model, filters, 0))
+            Ok(SetExpr::Find(0, model, filters))
         }
         TSet::Path(_, e) => {
             let e = written_expr(alloc, s, e)?;
-            Ok(SetExpr::Path(e, 0))
+            Ok(SetExpr::Path(0, e))
         }
         TSet::MapS(of, _, name, _, e) => {
-            let name = named(alloc, name)?;
+            let name = boxed_name(alloc, name.get())?;
             let of = boxed_set(alloc, s, of.get())?;
-            let e = written_expr(alloc, s, e)?;
-            Ok(SetExpr::MapS(of, name, e, 0))
+            let e = boxed_expr(alloc, s, e.get())?;
+            Ok(SetExpr::MapS(0, of, name, e))
         }
         TSet::FlatS(of, _, name, body) => {
-            let name = named(alloc, name)?;
+            let name = boxed_name(alloc, name.get())?;
             let of = boxed_set(alloc, s, of.get())?;
             let body = boxed_set(alloc, s, body.get())?;
-            Ok(SetExpr::FlatS(of, name, body, 0))
+            Ok(SetExpr::FlatS(0, of, name, body))
         }
         TSet::IfS(c, a, b) => {
             let a = boxed_set(alloc, s, a.get())?;
             let b = boxed_set(alloc, s, b.get())?;
-            let c = written_expr(alloc, s, c)?;
-            Ok(SetExpr::IfS(c, a, b, 0))
+            let c = boxed_expr(alloc, s, c.get())?;
+            Ok(SetExpr::IfS(0, c, a, b))
         }
         TSet::MatchS(of, a, name, b) => {
-            let name = named(alloc, name)?;
+            let name = boxed_name(alloc, name.get())?;
             let a = boxed_set(alloc, s, a.get())?;
             let b = boxed_set(alloc, s, b.get())?;
-            let of = written_expr(alloc, s, of)?;
-            Ok(SetExpr::MatchS(of, a, name, b, 0))
+            let of = boxed_expr(alloc, s, of.get())?;
+            Ok(SetExpr::MatchS(0, of, a, name, b))
         }
     }
 }

@@ -44,10 +44,10 @@ spec_of_parts statics models = record { statics = statics; models = models }
 
 -- `x -> [x]`, and `x -> [x.name]`
 abbrev pub only_x : Named → ℕ → Policy
-only_x x at = p.Fun x (s.List (item.One (e.Var (at_place x.name at) at) ∷ []) 9)
+only_x x at = p.Fun x (s.List 9 (item.One (e.Var at (at_place x.name at)) ∷ []))
 
 abbrev pub only_field : Named → Named → ℕ → Policy
-only_field x f at = p.Fun x (s.List (item.One (e.Get (e.Var (at_place x.name at) at) f at) ∷ []) 9)
+only_field x f at = p.Fun x (s.List 9 (item.One (e.Get at (e.Var at (at_place x.name at)) f) ∷ []))
 
 abbrev pub nobody : Policy
 nobody = p.Nobody 3

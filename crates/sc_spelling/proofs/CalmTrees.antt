@@ -57,7 +57,7 @@ calm_text t before rest opens closed = (opens k.Text refl, closed k.Text refl)
 calm_upper : (x : List ℕ) → Calm (upper x ∷ [])
 calm_upper x before rest opens closed = (opens k.Upper refl, closed k.Upper refl)
 
-calm_some : (a : List Mark) → Calm a → Calm (expr_spelling (Expr-F.SomeLit (record { rank = 0; marks = a }) 0)).marks
+calm_some : (a : List Mark) → Calm a → Calm (expr_spelling (Expr-F.SomeLit 0 (record { rank = 0; marks = a }))).marks
 calm_some a h before rest opens closed =
     (opens k.Lower refl, (refl, calm_then a (sign k.ParenClose ∷ []) h (tails_sign k.ParenClose refl refl) (Some k.ParenOpen) rest (λ n e. refl) closed))
 
@@ -119,59 +119,59 @@ calm_filter x filter.Has a h before rest opens closed = (opens k.Lower refl, (re
 
 expr_step : (y : Expr-F SureExpr SureItem SureSet SureFilter)
     → CalmExpr (roll-Expr (map-Expr SureExpr SureItem SureSet SureFilter Expr Item SetExpr Filter (λ e. e.0) (λ e. e.0) (λ e. e.0) (λ e. e.0) y))
-expr_step (Expr-F.Flag true at) = subst (λ z. Calm z.marks) (sym (fold-roll-Expr Spelling (List Mark) Spelling (List Mark) expr_spelling item_spelling set_spelling filter_spelling (Expr-F.Flag true at))) (calm_word (codes "true"))
-expr_step (Expr-F.Flag false at) = subst (λ z. Calm z.marks) (sym (fold-roll-Expr Spelling (List Mark) Spelling (List Mark) expr_spelling item_spelling set_spelling filter_spelling (Expr-F.Flag false at))) (calm_word (codes "false"))
-expr_step (Expr-F.Num v at) =
-    subst (λ z. Calm z.marks) (sym (fold-roll-Expr Spelling (List Mark) Spelling (List Mark) expr_spelling item_spelling set_spelling filter_spelling (Expr-F.Num v at))) (calm_number v)
-expr_step (Expr-F.Str txt at) =
-    subst (λ z. Calm z.marks) (sym (fold-roll-Expr Spelling (List Mark) Spelling (List Mark) expr_spelling item_spelling set_spelling filter_spelling (Expr-F.Str txt at))) (calm_text txt)
-expr_step (Expr-F.Var x at) =
-    subst (λ z. Calm z.marks) (sym (fold-roll-Expr Spelling (List Mark) Spelling (List Mark) expr_spelling item_spelling set_spelling filter_spelling (Expr-F.Var x at))) (calm_word x.name)
+expr_step (Expr-F.Flag at true) = subst (λ z. Calm z.marks) (sym (fold-roll-Expr Spelling (List Mark) Spelling (List Mark) expr_spelling item_spelling set_spelling filter_spelling (Expr-F.Flag at true))) (calm_word (codes "true"))
+expr_step (Expr-F.Flag at false) = subst (λ z. Calm z.marks) (sym (fold-roll-Expr Spelling (List Mark) Spelling (List Mark) expr_spelling item_spelling set_spelling filter_spelling (Expr-F.Flag at false))) (calm_word (codes "false"))
+expr_step (Expr-F.Num at v) =
+    subst (λ z. Calm z.marks) (sym (fold-roll-Expr Spelling (List Mark) Spelling (List Mark) expr_spelling item_spelling set_spelling filter_spelling (Expr-F.Num at v))) (calm_number v)
+expr_step (Expr-F.Str at txt) =
+    subst (λ z. Calm z.marks) (sym (fold-roll-Expr Spelling (List Mark) Spelling (List Mark) expr_spelling item_spelling set_spelling filter_spelling (Expr-F.Str at txt))) (calm_text txt)
+expr_step (Expr-F.Var at x) =
+    subst (λ z. Calm z.marks) (sym (fold-roll-Expr Spelling (List Mark) Spelling (List Mark) expr_spelling item_spelling set_spelling filter_spelling (Expr-F.Var at x))) (calm_word x.name)
 expr_step (Expr-F.NoneLit at) =
     subst (λ z. Calm z.marks) (sym (fold-roll-Expr Spelling (List Mark) Spelling (List Mark) expr_spelling item_spelling set_spelling filter_spelling (Expr-F.NoneLit at))) (calm_word (codes "none"))
-expr_step (Expr-F.SomeLit a at) =
-    subst (λ z. Calm z.marks) (sym (fold-roll-Expr Spelling (List Mark) Spelling (List Mark) expr_spelling item_spelling set_spelling filter_spelling (Expr-F.SomeLit a.0 at))) (calm_some (spelled_expr a.0).marks a.1)
-expr_step (Expr-F.Get a f at) =
-    subst (λ z. Calm z.marks) (sym (fold-roll-Expr Spelling (List Mark) Spelling (List Mark) expr_spelling item_spelling set_spelling filter_spelling (Expr-F.Get a.0 f at))) (calm_then (at_least 6 (spelled_expr a.0)) (sign k.Dot ∷ lower f.name ∷ []) (calm_least 6 (spelled_expr a.0) a.1) (tails_field f.name))
-expr_step (Expr-F.Cmp op a b at) =
-    subst (λ z. Calm z.marks) (sym (fold-roll-Expr Spelling (List Mark) Spelling (List Mark) expr_spelling item_spelling set_spelling filter_spelling (Expr-F.Cmp op a.0 b.0 at))) (calm_then (at_least 4 (spelled_expr a.0)) (between (cmp_sign op) ++ (at_least 4 (spelled_expr b.0))) (calm_least 4 (spelled_expr a.0) a.1) (tails_between (cmp_sign op) (at_least 4 (spelled_expr b.0)) (calm_least 4 (spelled_expr b.0) b.1)))
-expr_step (Expr-F.Member a t at) =
-    subst (λ z. Calm z.marks) (sym (fold-roll-Expr Spelling (List Mark) Spelling (List Mark) expr_spelling item_spelling set_spelling filter_spelling (Expr-F.Member a.0 t.0 at))) (calm_then (at_least 4 (spelled_expr a.0)) (spaced (codes "in") ++ container (spelled_set t.0)) (calm_least 4 (spelled_expr a.0) a.1) (tails_in (spelled_set t.0) t.1))
-expr_step (Expr-F.Not a at) =
-    subst (λ z. Calm z.marks) (sym (fold-roll-Expr Spelling (List Mark) Spelling (List Mark) expr_spelling item_spelling set_spelling filter_spelling (Expr-F.Not a.0 at))) (calm_open k.Not (at_least 5 (spelled_expr a.0)) refl (λ n e. e) (calm_least 5 (spelled_expr a.0) a.1))
-expr_step (Expr-F.And a b at) =
-    subst (λ z. Calm z.marks) (sym (fold-roll-Expr Spelling (List Mark) Spelling (List Mark) expr_spelling item_spelling set_spelling filter_spelling (Expr-F.And a.0 b.0 at))) (calm_then (at_least 2 (spelled_expr a.0)) (between k.AndAnd ++ (at_least 3 (spelled_expr b.0))) (calm_least 2 (spelled_expr a.0) a.1) (tails_between k.AndAnd (at_least 3 (spelled_expr b.0)) (calm_least 3 (spelled_expr b.0) b.1)))
-expr_step (Expr-F.Or a b at) =
-    subst (λ z. Calm z.marks) (sym (fold-roll-Expr Spelling (List Mark) Spelling (List Mark) expr_spelling item_spelling set_spelling filter_spelling (Expr-F.Or a.0 b.0 at))) (calm_then (at_least 1 (spelled_expr a.0)) (between k.OrOr ++ (at_least 2 (spelled_expr b.0))) (calm_least 1 (spelled_expr a.0) a.1) (tails_between k.OrOr (at_least 2 (spelled_expr b.0)) (calm_least 2 (spelled_expr b.0) b.1)))
-expr_step (Expr-F.IfE a b d at) =
-    subst (λ z. Calm z.marks) (sym (fold-roll-Expr Spelling (List Mark) Spelling (List Mark) expr_spelling item_spelling set_spelling filter_spelling (Expr-F.IfE a.0 b.0 d.0 at))) (calm_choice (spelled_expr a.0).marks (spelled_expr b.0).marks (spelled_expr d.0).marks a.1 b.1 d.1)
-expr_step (Expr-F.MatchE a b x d at) =
-    subst (λ z. Calm z.marks) (sym (fold-roll-Expr Spelling (List Mark) Spelling (List Mark) expr_spelling item_spelling set_spelling filter_spelling (Expr-F.MatchE a.0 b.0 x d.0 at))) (calm_cases (spelled_expr a.0).marks (spelled_expr b.0).marks x.name (spelled_expr d.0).marks a.1 b.1 d.1)
+expr_step (Expr-F.SomeLit at a) =
+    subst (λ z. Calm z.marks) (sym (fold-roll-Expr Spelling (List Mark) Spelling (List Mark) expr_spelling item_spelling set_spelling filter_spelling (Expr-F.SomeLit at a.0))) (calm_some (spelled_expr a.0).marks a.1)
+expr_step (Expr-F.Get at a f) =
+    subst (λ z. Calm z.marks) (sym (fold-roll-Expr Spelling (List Mark) Spelling (List Mark) expr_spelling item_spelling set_spelling filter_spelling (Expr-F.Get at a.0 f))) (calm_then (at_least 6 (spelled_expr a.0)) (sign k.Dot ∷ lower f.name ∷ []) (calm_least 6 (spelled_expr a.0) a.1) (tails_field f.name))
+expr_step (Expr-F.Cmp at op a b) =
+    subst (λ z. Calm z.marks) (sym (fold-roll-Expr Spelling (List Mark) Spelling (List Mark) expr_spelling item_spelling set_spelling filter_spelling (Expr-F.Cmp at op a.0 b.0))) (calm_then (at_least 4 (spelled_expr a.0)) (between (cmp_sign op) ++ (at_least 4 (spelled_expr b.0))) (calm_least 4 (spelled_expr a.0) a.1) (tails_between (cmp_sign op) (at_least 4 (spelled_expr b.0)) (calm_least 4 (spelled_expr b.0) b.1)))
+expr_step (Expr-F.Member at a t) =
+    subst (λ z. Calm z.marks) (sym (fold-roll-Expr Spelling (List Mark) Spelling (List Mark) expr_spelling item_spelling set_spelling filter_spelling (Expr-F.Member at a.0 t.0))) (calm_then (at_least 4 (spelled_expr a.0)) (spaced (codes "in") ++ container (spelled_set t.0)) (calm_least 4 (spelled_expr a.0) a.1) (tails_in (spelled_set t.0) t.1))
+expr_step (Expr-F.Not at a) =
+    subst (λ z. Calm z.marks) (sym (fold-roll-Expr Spelling (List Mark) Spelling (List Mark) expr_spelling item_spelling set_spelling filter_spelling (Expr-F.Not at a.0))) (calm_open k.Not (at_least 5 (spelled_expr a.0)) refl (λ n e. e) (calm_least 5 (spelled_expr a.0) a.1))
+expr_step (Expr-F.And at a b) =
+    subst (λ z. Calm z.marks) (sym (fold-roll-Expr Spelling (List Mark) Spelling (List Mark) expr_spelling item_spelling set_spelling filter_spelling (Expr-F.And at a.0 b.0))) (calm_then (at_least 2 (spelled_expr a.0)) (between k.AndAnd ++ (at_least 3 (spelled_expr b.0))) (calm_least 2 (spelled_expr a.0) a.1) (tails_between k.AndAnd (at_least 3 (spelled_expr b.0)) (calm_least 3 (spelled_expr b.0) b.1)))
+expr_step (Expr-F.Or at a b) =
+    subst (λ z. Calm z.marks) (sym (fold-roll-Expr Spelling (List Mark) Spelling (List Mark) expr_spelling item_spelling set_spelling filter_spelling (Expr-F.Or at a.0 b.0))) (calm_then (at_least 1 (spelled_expr a.0)) (between k.OrOr ++ (at_least 2 (spelled_expr b.0))) (calm_least 1 (spelled_expr a.0) a.1) (tails_between k.OrOr (at_least 2 (spelled_expr b.0)) (calm_least 2 (spelled_expr b.0) b.1)))
+expr_step (Expr-F.IfE at a b d) =
+    subst (λ z. Calm z.marks) (sym (fold-roll-Expr Spelling (List Mark) Spelling (List Mark) expr_spelling item_spelling set_spelling filter_spelling (Expr-F.IfE at a.0 b.0 d.0))) (calm_choice (spelled_expr a.0).marks (spelled_expr b.0).marks (spelled_expr d.0).marks a.1 b.1 d.1)
+expr_step (Expr-F.MatchE at a b (x, d)) =
+    subst (λ z. Calm z.marks) (sym (fold-roll-Expr Spelling (List Mark) Spelling (List Mark) expr_spelling item_spelling set_spelling filter_spelling (Expr-F.MatchE at a.0 b.0 (x, d.0)))) (calm_cases (spelled_expr a.0).marks (spelled_expr b.0).marks x.name (spelled_expr d.0).marks a.1 b.1 d.1)
 
 set_step : (y : SetExpr-F SureExpr SureItem SureSet SureFilter)
     → CalmSet (roll-SetExpr (map-SetExpr SureExpr SureItem SureSet SureFilter Expr Item SetExpr Filter (λ e. e.0) (λ e. e.0) (λ e. e.0) (λ e. e.0) y))
-set_step (SetExpr-F.Everyone w at) =
-    subst (λ z. Calm z.marks) (sym (fold-roll-SetExpr Spelling (List Mark) Spelling (List Mark) expr_spelling item_spelling set_spelling filter_spelling (SetExpr-F.Everyone w at))) (calm_word (codes "public"))
+set_step (SetExpr-F.Everyone at w) =
+    subst (λ z. Calm z.marks) (sym (fold-roll-SetExpr Spelling (List Mark) Spelling (List Mark) expr_spelling item_spelling set_spelling filter_spelling (SetExpr-F.Everyone at w))) (calm_word (codes "public"))
 set_step (SetExpr-F.Nobody at) =
     subst (λ z. Calm z.marks) (sym (fold-roll-SetExpr Spelling (List Mark) Spelling (List Mark) expr_spelling item_spelling set_spelling filter_spelling (SetExpr-F.Nobody at))) (calm_word (codes "none"))
-set_step (SetExpr-F.List xs at) =
-    subst (λ z. Calm z.marks) (sym (fold-roll-SetExpr Spelling (List Mark) Spelling (List Mark) expr_spelling item_spelling set_spelling filter_spelling (SetExpr-F.List (map (λ e. e.0) xs) at))) (calm_list (map spelled_item (map (λ e. e.0) xs)) (all_items xs))
-set_step (SetExpr-F.Sum t u at) =
-    subst (λ z. Calm z.marks) (sym (fold-roll-SetExpr Spelling (List Mark) Spelling (List Mark) expr_spelling item_spelling set_spelling filter_spelling (SetExpr-F.Sum t.0 u.0 at))) (calm_then (at_least 1 (spelled_set t.0)) (between k.Plus ++ (at_least 2 (spelled_set u.0))) (calm_least 1 (spelled_set t.0) t.1) (tails_between k.Plus (at_least 2 (spelled_set u.0)) (calm_least 2 (spelled_set u.0) u.1)))
-set_step (SetExpr-F.Less t u at) =
-    subst (λ z. Calm z.marks) (sym (fold-roll-SetExpr Spelling (List Mark) Spelling (List Mark) expr_spelling item_spelling set_spelling filter_spelling (SetExpr-F.Less t.0 u.0 at))) (calm_then (at_least 1 (spelled_set t.0)) (between k.Minus ++ (at_least 2 (spelled_set u.0))) (calm_least 1 (spelled_set t.0) t.1) (tails_between k.Minus (at_least 2 (spelled_set u.0)) (calm_least 2 (spelled_set u.0) u.1)))
-set_step (SetExpr-F.Find x fs at) =
-    subst (λ z. Calm z.marks) (sym (fold-roll-SetExpr Spelling (List Mark) Spelling (List Mark) expr_spelling item_spelling set_spelling filter_spelling (SetExpr-F.Find x (map (λ e. e.0) fs) at))) (calm_find x (map spelled_filter (map (λ e. e.0) fs)) (all_filters fs))
-set_step (SetExpr-F.Path a at) =
-    subst (λ z. Calm z.marks) (sym (fold-roll-SetExpr Spelling (List Mark) Spelling (List Mark) expr_spelling item_spelling set_spelling filter_spelling (SetExpr-F.Path a.0 at))) (calm_least 6 (spelled_expr a.0) a.1)
-set_step (SetExpr-F.MapS t x a at) =
-    subst (λ z. Calm z.marks) (sym (fold-roll-SetExpr Spelling (List Mark) Spelling (List Mark) expr_spelling item_spelling set_spelling filter_spelling (SetExpr-F.MapS t.0 x a.0 at))) (calm_then (spelled_set t.0).marks (step (codes "map") x.name (spelled_expr a.0).marks) t.1 (tails_step (codes "map") x.name (spelled_expr a.0).marks a.1))
-set_step (SetExpr-F.FlatS t x u at) =
-    subst (λ z. Calm z.marks) (sym (fold-roll-SetExpr Spelling (List Mark) Spelling (List Mark) expr_spelling item_spelling set_spelling filter_spelling (SetExpr-F.FlatS t.0 x u.0 at))) (calm_then (spelled_set t.0).marks (step (codes "flat_map") x.name (spelled_set u.0).marks) t.1 (tails_step (codes "flat_map") x.name (spelled_set u.0).marks u.1))
-set_step (SetExpr-F.IfS a t u at) =
-    subst (λ z. Calm z.marks) (sym (fold-roll-SetExpr Spelling (List Mark) Spelling (List Mark) expr_spelling item_spelling set_spelling filter_spelling (SetExpr-F.IfS a.0 t.0 u.0 at))) (calm_choice (spelled_expr a.0).marks (spelled_set t.0).marks (spelled_set u.0).marks a.1 t.1 u.1)
-set_step (SetExpr-F.MatchS a t x u at) =
-    subst (λ z. Calm z.marks) (sym (fold-roll-SetExpr Spelling (List Mark) Spelling (List Mark) expr_spelling item_spelling set_spelling filter_spelling (SetExpr-F.MatchS a.0 t.0 x u.0 at))) (calm_cases (spelled_expr a.0).marks (spelled_set t.0).marks x.name (spelled_set u.0).marks a.1 t.1 u.1)
+set_step (SetExpr-F.List at xs) =
+    subst (λ z. Calm z.marks) (sym (fold-roll-SetExpr Spelling (List Mark) Spelling (List Mark) expr_spelling item_spelling set_spelling filter_spelling (SetExpr-F.List at (map (λ e. e.0) xs)))) (calm_list (map spelled_item (map (λ e. e.0) xs)) (all_items xs))
+set_step (SetExpr-F.Sum at t u) =
+    subst (λ z. Calm z.marks) (sym (fold-roll-SetExpr Spelling (List Mark) Spelling (List Mark) expr_spelling item_spelling set_spelling filter_spelling (SetExpr-F.Sum at t.0 u.0))) (calm_then (at_least 1 (spelled_set t.0)) (between k.Plus ++ (at_least 2 (spelled_set u.0))) (calm_least 1 (spelled_set t.0) t.1) (tails_between k.Plus (at_least 2 (spelled_set u.0)) (calm_least 2 (spelled_set u.0) u.1)))
+set_step (SetExpr-F.Less at t u) =
+    subst (λ z. Calm z.marks) (sym (fold-roll-SetExpr Spelling (List Mark) Spelling (List Mark) expr_spelling item_spelling set_spelling filter_spelling (SetExpr-F.Less at t.0 u.0))) (calm_then (at_least 1 (spelled_set t.0)) (between k.Minus ++ (at_least 2 (spelled_set u.0))) (calm_least 1 (spelled_set t.0) t.1) (tails_between k.Minus (at_least 2 (spelled_set u.0)) (calm_least 2 (spelled_set u.0) u.1)))
+set_step (SetExpr-F.Find at x fs) =
+    subst (λ z. Calm z.marks) (sym (fold-roll-SetExpr Spelling (List Mark) Spelling (List Mark) expr_spelling item_spelling set_spelling filter_spelling (SetExpr-F.Find at x (map (λ e. e.0) fs)))) (calm_find x (map spelled_filter (map (λ e. e.0) fs)) (all_filters fs))
+set_step (SetExpr-F.Path at a) =
+    subst (λ z. Calm z.marks) (sym (fold-roll-SetExpr Spelling (List Mark) Spelling (List Mark) expr_spelling item_spelling set_spelling filter_spelling (SetExpr-F.Path at a.0))) (calm_least 6 (spelled_expr a.0) a.1)
+set_step (SetExpr-F.MapS at t x a) =
+    subst (λ z. Calm z.marks) (sym (fold-roll-SetExpr Spelling (List Mark) Spelling (List Mark) expr_spelling item_spelling set_spelling filter_spelling (SetExpr-F.MapS at t.0 x a.0))) (calm_then (spelled_set t.0).marks (step (codes "map") x.name (spelled_expr a.0).marks) t.1 (tails_step (codes "map") x.name (spelled_expr a.0).marks a.1))
+set_step (SetExpr-F.FlatS at t x u) =
+    subst (λ z. Calm z.marks) (sym (fold-roll-SetExpr Spelling (List Mark) Spelling (List Mark) expr_spelling item_spelling set_spelling filter_spelling (SetExpr-F.FlatS at t.0 x u.0))) (calm_then (spelled_set t.0).marks (step (codes "flat_map") x.name (spelled_set u.0).marks) t.1 (tails_step (codes "flat_map") x.name (spelled_set u.0).marks u.1))
+set_step (SetExpr-F.IfS at a t u) =
+    subst (λ z. Calm z.marks) (sym (fold-roll-SetExpr Spelling (List Mark) Spelling (List Mark) expr_spelling item_spelling set_spelling filter_spelling (SetExpr-F.IfS at a.0 t.0 u.0))) (calm_choice (spelled_expr a.0).marks (spelled_set t.0).marks (spelled_set u.0).marks a.1 t.1 u.1)
+set_step (SetExpr-F.MatchS at a t x u) =
+    subst (λ z. Calm z.marks) (sym (fold-roll-SetExpr Spelling (List Mark) Spelling (List Mark) expr_spelling item_spelling set_spelling filter_spelling (SetExpr-F.MatchS at a.0 t.0 x u.0))) (calm_cases (spelled_expr a.0).marks (spelled_set t.0).marks x.name (spelled_set u.0).marks a.1 t.1 u.1)
 
 item_step : (y : Item-F SureExpr SureItem SureSet SureFilter)
     → CalmItem (roll-Item (map-Item SureExpr SureItem SureSet SureFilter Expr Item SetExpr Filter (λ e. e.0) (λ e. e.0) (λ e. e.0) (λ e. e.0) y))

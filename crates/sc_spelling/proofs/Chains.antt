@@ -199,7 +199,7 @@ path_chain_held S know x ls good (v, is, (p, q, g, name, ((a, b, g2, items, inr 
     let a2 : length q ≡ length a + length b = size_of q a b g2 in
     let goodq = good_back ls p q g good in
     let inner = fold get (var_of v.0) v.1.0 in
-    let here : x ≡ s.Path inner v.0.at = is ∙ ap (λ h. h (s.Path inner v.0.at)) made in
+    let here : x ≡ s.Path v.0.at inner = is ∙ ap (λ h. h (s.Path v.0.at inner)) made in
     let three : (spelled_set x).rank ≡ 3 = ap (λ z. (spelled_set z).rank) here ∙ ap (λ z. z.rank) (layer.Path_spelled inner v.0.at) in
     inl (
       inl (record {
@@ -222,15 +222,15 @@ path_chain_held S know x ls good (v, is, (p, q, g, name, ((a, b, g2, items, inl 
     let goodq = good_back ls p q g good in
     let inner = fold get (var_of v.0) v.1.0 in
     let f = v.1.1 in
-    let base : SetExpr = s.Path inner v.0.at in
+    let base : SetExpr = s.Path v.0.at inner in
     let more = path_steps_c S know f b3 (good_back b a3 b3 g3 (good_back q a b g2 goodq)) d in
     let grown : set_lexemes (f base) ≡ lexemes_of_marks (at_least 6 (spelled_expr inner)) ++ dot ∷ more.marks =
     more.grows base ∙ ap (λ z. lexemes_of_marks z.marks ++ dot ∷ more.marks) (layer.Path_spelled inner v.0.at) in
     subst (λ z. HeldSet S 2 z (length ls)) (sym is)
     (held_term S (f base) (length ls) (more.rank base)
     (c.rewritten grown (omega arith)
-    (moved (λ w. w.1 (s.Path (fold get (var_of w.0.0) w.0.1) w.0.0.at))
-    (λ w r. r.1 base (s.Path (fold get (var_of w.0.0) w.0.1) w.0.0.at)
+    (moved (λ w. w.1 (s.Path w.0.0.at (fold get (var_of w.0.0) w.0.1)))
+    (λ w r. r.1 base (s.Path w.0.0.at (fold get (var_of w.0.0) w.0.1))
     (path_as (fold get (var_of w.0.0) w.0.1) inner w.0.0.at v.0.at (fields_as v.1.0 w.0.1 (var_of v.0) (var_of w.0.0) (var_as w.0.0 v.0 r.0.0) r.0.1)))
     (λ w ks (d1, e1, h1, (d2, e2, h2, n, rest), last). inr (inr (inr (inr (inr (
       (w.0.0, (w.0.1, w.1)),

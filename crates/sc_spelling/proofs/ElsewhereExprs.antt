@@ -132,14 +132,14 @@ conjunction_steady : {S : Pieces} → Parts S → Steady S conjunction AsExpr
 unfolding conjunction
 conjunction_steady {S} p =
     mapped_steady {R = Both AsExpr (Same AsExpr)}
-    (λ v w r. folds_as (λ left right. e.And left right (expr_at left)) (λ x y a b h k. and_as y x b a (expr_at y) (expr_at x) h k) v.1 w.1 v.0 w.0 r.0 r.1)
+    (λ v w r. folds_as (λ left right. e.And (expr_at left) left right) (λ x y a b h k. and_as y x b a (expr_at y) (expr_at x) h k) v.1 w.1 v.0 w.0 r.0 r.1)
     (both_steady (compared_steady p) (each_steady (behind_steady (compared_steady p))))
 
 disjunction_steady : {S : Pieces} → Parts S → Steady S disjunction AsExpr
 unfolding disjunction
 disjunction_steady {S} p =
     mapped_steady {R = Both AsExpr (Same AsExpr)}
-    (λ v w r. folds_as (λ left right. e.Or left right (expr_at left)) (λ x y a b h k. or_as y x b a (expr_at y) (expr_at x) h k) v.1 w.1 v.0 w.0 r.0 r.1)
+    (λ v w r. folds_as (λ left right. e.Or (expr_at left) left right) (λ x y a b h k. or_as y x b a (expr_at y) (expr_at x) h k) v.1 w.1 v.0 w.0 r.0 r.1)
     (both_steady (conjunction_steady p) (each_steady (behind_steady (conjunction_steady p))))
 
 condition_steady : {S : Pieces} → Parts S → Steady S condition (Both SameBytes AsExpr)
@@ -252,7 +252,7 @@ path_chain_steady : {S : Pieces} → Parts S → Steady S path_chain AsSet
 unfolding path_chain
 path_chain_steady {S} p =
     mapped_steady {R = Both SameBytes (Both (Same SameBytes) AsStep)}
-    (λ v w r. r.1.1 (s.Path (fold get (var_of v.0) v.1.0) v.0.at) (s.Path (fold get (var_of w.0) w.1.0) w.0.at)
+    (λ v w r. r.1.1 (s.Path v.0.at (fold get (var_of v.0) v.1.0)) (s.Path w.0.at (fold get (var_of w.0) w.1.0))
     (path_as (fold get (var_of w.0) w.1.0) (fold get (var_of v.0) v.1.0) w.0.at v.0.at
     (fields_as v.1.0 w.1.0 (var_of v.0) (var_of w.0) (var_as w.0 v.0 r.0) r.1.0)))
     (both_steady (token_steady Lower) (ended_steady (token_steady Lower) (path_steps_steady p) (nothing_steady (λ of. of) (λ x y h. h))))

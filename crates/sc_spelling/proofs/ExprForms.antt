@@ -38,19 +38,19 @@ pub name_as : (m l : Piece) → m.bytes ≡ l.bytes → stripped_name (named m) 
 name_as m l e = ap (λ (z : List ℕ). let n : Named = record { name = z; at = 0 } in n) e
 
 pub var_as : (m l : Piece) → m.bytes ≡ l.bytes → AsExpr (var_of l) (var_of m)
-var_as m l same = layer.Var_stripped (named m) m.at ∙ ap (λ z. e.Var z 0) (name_as m l same) ∙ sym (layer.Var_stripped (named l) l.at)
+var_as m l same = layer.Var_stripped (named m) m.at ∙ ap (λ z. e.Var 0 z) (name_as m l same) ∙ sym (layer.Var_stripped (named l) l.at)
 
 pub get_as : (y x : Expr) (m l : Piece) → AsExpr x y → m.bytes ≡ l.bytes → AsExpr (get x l) (get y m)
 get_as y x m l r same =
-    layer.Get_stripped y (named m) (expr_at y) ∙ ap (λ z. e.Get z (stripped_name (named m)) 0) r
-    ∙ ap (λ z. e.Get (stripped_expr x) z 0) (name_as m l same) ∙ sym (layer.Get_stripped x (named l) (expr_at x))
+    layer.Get_stripped y (named m) (expr_at y) ∙ ap (λ z. e.Get 0 z (stripped_name (named m))) r
+    ∙ ap (λ z. e.Get 0 (stripped_expr x) z) (name_as m l same) ∙ sym (layer.Get_stripped x (named l) (expr_at x))
 
 -- ---- paths
 
 fresh_var : (S : Pieces) (l : Piece) (n : ℕ) → 1 ≤ n → IsPart (lexeme l) → admits Lower l ≡ true → Held S 6 (var_of l) n
 unfolding path_root
 fresh_var S l n some safe a =
-    held S 6 (var_of l) (expr_spelling (Expr-F.Var (named l) l.at)) n (layer.Var_spelled (named l) l.at) (omega arith)
+    held S 6 (var_of l) (expr_spelling (Expr-F.Var l.at (named l))) n (layer.Var_spelled (named l) l.at) (omega arith)
     (c.rewritten refl some
     (moved var_of (λ m r. var_as m l r) (λ m ks d. path_of_root S (var_of m) ks (inl (m, refl, d))) (lower_token S l safe a)))
 
@@ -104,7 +104,7 @@ add_field S v ls (front, back, glue, (w, is, (a, b, g, root, (rest, t))), d) = (
 
 field_held : (S : Pieces) (x : Expr) (l : Piece) (n : ℕ) → IsPart (lexeme l) → admits Lower l ≡ true → Held S 6 x n → Held S 6 (get x l) (n + 2)
 field_held S x l n safe a h =
-    held S 6 (get x l) (expr_spelling (Expr-F.Get (spelled_expr x) (named l) (expr_at x))) (n + 2) (layer.Get_spelled x (named l) (expr_at x)) (omega arith)
+    held S 6 (get x l) (expr_spelling (Expr-F.Get (expr_at x) (spelled_expr x) (named l))) (n + 2) (layer.Get_spelled x (named l) (expr_at x)) (omega arith)
     (c.rewritten (lexemes_append (at_least 6 (spelled_expr x)) (mark.sign k.Dot ∷ lower l.bytes ∷ [])) (omega arith)
     (moved (λ v. get v.0 v.1.1) (λ v r. get_as v.0 x v.1.1 l r.0 r.1.1) (add_field S)
     (c.both (held_at S 6 (omega arith) x n h) (c.both (dot_token S) (lower_token S l safe a)))))
@@ -141,20 +141,20 @@ flag_held : (S : Pieces) (x : Expr) (ls : List Piece) → Spells S flag x ls →
 unfolding flag atom
 flag_held S x ls (inl (l, is, (g, a))) =
     subst (λ z. Held S 5 z (length ls)) (sym is)
-    (held S 5 (e.Flag true l.at) (expr_spelling (Expr-F.Flag true l.at)) (length ls) (layer.Flag_spelled true l.at) (omega arith)
+    (held S 5 (e.Flag l.at true) (expr_spelling (Expr-F.Flag l.at true)) (length ls) (layer.Flag_spelled true l.at) (omega arith)
     (c.rewritten refl (omega (arith, size_one ls l g))
-    (moved (λ m. e.Flag true m.at) (λ m r. layer.Flag_stripped true m.at ∙ sym (layer.Flag_stripped true l.at)) (λ m ks d. inl (inl (m, refl, d)))
+    (moved (λ m. e.Flag m.at true) (λ m r. layer.Flag_stripped true m.at ∙ sym (layer.Flag_stripped true l.at)) (λ m ks d. inl (inl (m, refl, d)))
     (lower_word S (codes "true") refl refl refl))))
 flag_held S x ls (inr (l, is, (g, a))) =
     subst (λ z. Held S 5 z (length ls)) (sym is)
-    (held S 5 (e.Flag false l.at) (expr_spelling (Expr-F.Flag false l.at)) (length ls) (layer.Flag_spelled false l.at) (omega arith)
+    (held S 5 (e.Flag l.at false) (expr_spelling (Expr-F.Flag l.at false)) (length ls) (layer.Flag_spelled false l.at) (omega arith)
     (c.rewritten refl (omega (arith, size_one ls l g))
-    (moved (λ m. e.Flag false m.at) (λ m r. layer.Flag_stripped false m.at ∙ sym (layer.Flag_stripped false l.at)) (λ m ks d. inl (inr (m, refl, d)))
+    (moved (λ m. e.Flag m.at false) (λ m r. layer.Flag_stripped false m.at ∙ sym (layer.Flag_stripped false l.at)) (λ m ks d. inl (inr (m, refl, d)))
     (lower_word S (codes "false") refl refl refl))))
 
-pub num_as : (v : ℕ → ℤ) (m l : Piece) → m.bytes ≡ l.bytes → (a b : ℕ) → AsExpr (e.Num (v (digits_value 10 l.bytes)) b) (e.Num (v (digits_value 10 m.bytes)) a)
+pub num_as : (v : ℕ → ℤ) (m l : Piece) → m.bytes ≡ l.bytes → (a b : ℕ) → AsExpr (e.Num b (v (digits_value 10 l.bytes))) (e.Num a (v (digits_value 10 m.bytes)))
 num_as v m l r a b =
-    layer.Num_stripped (v (digits_value 10 m.bytes)) a ∙ ap (λ z. e.Num (v (digits_value 10 z)) 0) r ∙ sym (layer.Num_stripped (v (digits_value 10 l.bytes)) b)
+    layer.Num_stripped (v (digits_value 10 m.bytes)) a ∙ ap (λ z. e.Num 0 (v (digits_value 10 z))) r ∙ sym (layer.Num_stripped (v (digits_value 10 l.bytes)) b)
 
 some_number : (n : ℕ) → 1 ≤ n → suc (n - 1) ≡ n
 some_number n h = omega arith
@@ -164,10 +164,10 @@ unfolding number atom admits
 number_held S x ls good (inl (l, is, (g, a))) =
     let safe : IsPart (at k.Number l.bytes) = as_kind l k.Number (both_true (same_kind l.kind k.Number) (nat_le (digits_value 10 l.bytes) largest) a).0 (good_one ls l g good) in
     subst (λ z. Held S 5 z (length ls)) (sym is)
-    (held S 5 (e.Num (pos (digits_value 10 l.bytes)) l.at) (expr_spelling (Expr-F.Num (pos (digits_value 10 l.bytes)) l.at)) (length ls)
+    (held S 5 (e.Num l.at (pos (digits_value 10 l.bytes))) (expr_spelling (Expr-F.Num l.at (pos (digits_value 10 l.bytes)))) (length ls)
     (layer.Num_spelled (pos (digits_value 10 l.bytes)) l.at) (omega arith)
     (c.rewritten (ap (λ z. at k.Number z ∷ []) (number_text l.bytes safe)) (omega (arith, size_one ls l g))
-    (moved (λ m. e.Num (pos (digits_value 10 m.bytes)) m.at) (λ m r. num_as pos m l r m.at l.at) (λ m ks d. inr (inl (inl (m, refl, d))))
+    (moved (λ m. e.Num m.at (pos (digits_value 10 m.bytes))) (λ m r. num_as pos m l r m.at l.at) (λ m ks d. inr (inl (inl (m, refl, d))))
     (plain_token S l (good_one ls l g good) a))))
 number_held S x ls good (inr (v, is, (p, q, g, (po, oa), (ql, la)))) =
     let tests = both_true (same_kind v.1.kind k.Number) (nat_le 1 (digits_value 10 v.1.bytes)) la in
@@ -177,28 +177,28 @@ number_held S x ls good (inr (v, is, (p, q, g, (po, oa), (ql, la)))) =
     let some : 1 ≤ digits_value 10 v.1.bytes = leb-true 1 (digits_value 10 v.1.bytes) tests.1 in
     let n = minus (digits_value 10 v.1.bytes) in
     subst (λ z. Held S 5 z (length ls)) (sym is)
-    (held S 5 (e.Num n v.0.at) (expr_spelling (Expr-F.Num n v.0.at)) (length ls) (layer.Num_spelled n v.0.at) (omega arith)
+    (held S 5 (e.Num v.0.at n) (expr_spelling (Expr-F.Num v.0.at n)) (length ls) (layer.Num_spelled n v.0.at) (omega arith)
     (c.rewritten
     (ap (λ z. at k.Minus (sign_of k.Minus) ∷ at k.Number (decimal z) ∷ []) (some_number (digits_value 10 v.1.bytes) some)
     ∙ ap (λ z. at k.Minus (sign_of k.Minus) ∷ at k.Number z ∷ []) (number_text v.1.bytes safe)) (omega (arith, size_one p v.0 po, size_one q v.1 ql))
-    (moved (λ m. e.Num (minus (digits_value 10 m.1.bytes)) m.0.at) (λ m r. num_as minus m.1 v.1 r.1 m.0.at v.0.at) (λ m ks d. inr (inl (inr (m, refl, d))))
+    (moved (λ m. e.Num m.0.at (minus (digits_value 10 m.1.bytes))) (λ m r. num_as minus m.1 v.1 r.1 m.0.at v.0.at) (λ m ks d. inr (inl (inr (m, refl, d))))
     (c.both (minus_token S) (negated_token S v.1 goodq la)))))
 
-pub str_as : (m l : Piece) → literal_value m.bytes ≡ literal_value l.bytes → AsExpr (e.Str (literal_value l.bytes) l.at) (e.Str (literal_value m.bytes) m.at)
-str_as m l r = layer.Str_stripped (literal_value m.bytes) m.at ∙ ap (λ z. e.Str z 0) r ∙ sym (layer.Str_stripped (literal_value l.bytes) l.at)
+pub str_as : (m l : Piece) → literal_value m.bytes ≡ literal_value l.bytes → AsExpr (e.Str l.at (literal_value l.bytes)) (e.Str m.at (literal_value m.bytes))
+str_as m l r = layer.Str_stripped (literal_value m.bytes) m.at ∙ ap (λ z. e.Str 0 z) r ∙ sym (layer.Str_stripped (literal_value l.bytes) l.at)
 
 literal_held : (S : Pieces) (x : Expr) (ls : List Piece) → AreGood ls → Spells S literal x ls → Held S 5 x (length ls)
 unfolding literal atom
 literal_held S x ls good (l, is, (g, a)) =
     subst (λ z. Held S 5 z (length ls)) (sym is)
-    (held S 5 (e.Str (literal_value l.bytes) l.at) (expr_spelling (Expr-F.Str (literal_value l.bytes) l.at)) (length ls)
+    (held S 5 (e.Str l.at (literal_value l.bytes)) (expr_spelling (Expr-F.Str l.at (literal_value l.bytes))) (length ls)
     (layer.Str_spelled (literal_value l.bytes) l.at) (omega arith)
     (c.rewritten refl (omega (arith, size_one ls l g))
-    (moved (λ m. e.Str (literal_value m.bytes) m.at) (λ m r. str_as m l r) (λ m ks d. inr (inr (inl (m, refl, d))))
+    (moved (λ m. e.Str m.at (literal_value m.bytes)) (λ m r. str_as m l r) (λ m ks d. inr (inr (inl (m, refl, d))))
     (literal_token S l (good_one ls l g good) a))))
 
-pub some_as : (y x : Expr) (a b : ℕ) → AsExpr x y → AsExpr (e.SomeLit x b) (e.SomeLit y a)
-some_as y x a b r = layer.SomeLit_stripped y a ∙ ap (λ z. e.SomeLit z 0) r ∙ sym (layer.SomeLit_stripped x b)
+pub some_as : (y x : Expr) (a b : ℕ) → AsExpr x y → AsExpr (e.SomeLit b x) (e.SomeLit a y)
+some_as y x a b r = layer.SomeLit_stripped y a ∙ ap (λ z. e.SomeLit 0 z) r ∙ sym (layer.SomeLit_stripped x b)
 
 option_held : (S : Pieces) → Knows S → (x : Expr) (ls : List Piece) → AreGood ls → Spells S option x ls → Held S 5 x (length ls)
 unfolding option atom
@@ -213,13 +213,13 @@ option_held S know x ls good (inr (v, is, (p, q, g, (po, oa), (w, same, d)))) =
     let known = know.expr w.1.0 i.inner i.good i.spells in
     let one : length ls ≡ length p + length q = size_of ls p q g in
     let few : length i.inner + 2 ≤ length q = i.fewer in
-    let here : x ≡ e.SomeLit w.1.0 v.0.at = is ∙ ap (λ z. e.SomeLit z v.0.at) same in
+    let here : x ≡ e.SomeLit v.0.at w.1.0 = is ∙ ap (λ z. e.SomeLit v.0.at z) same in
     subst (λ z. Held S 5 z (length ls)) (sym here)
-    (held S 5 (e.SomeLit w.1.0 v.0.at) (expr_spelling (Expr-F.SomeLit (spelled_expr w.1.0) v.0.at)) (length ls) (layer.SomeLit_spelled w.1.0 v.0.at) (omega arith)
+    (held S 5 (e.SomeLit v.0.at w.1.0) (expr_spelling (Expr-F.SomeLit v.0.at (spelled_expr w.1.0))) (length ls) (layer.SomeLit_spelled w.1.0 v.0.at) (omega arith)
     (c.rewritten
     (ap (λ z. at k.Lower (codes "some") ∷ at k.ParenOpen (sign_of k.ParenOpen) ∷ z) (lexemes_append (spelled_expr w.1.0).marks (mark.sign k.ParenClose ∷ [])))
     (omega (arith, size_one p v.0 po))
-    (moved (λ z. e.SomeLit z.1.1.0 z.0.at) (λ z r. some_as z.1.1.0 w.1.0 z.0.at v.0.at r.1.1.0)
+    (moved (λ z. e.SomeLit z.0.at z.1.1.0) (λ z r. some_as z.1.1.0 w.1.0 z.0.at v.0.at r.1.1.0)
     (λ z ks (a, b, h, key, rest). inr (inr (inr (inl (inr ((z.0, z.1.1.0), refl, (a, b, h, key, (z.1, refl, rest))))))))
     (c.both (lower_word S (codes "some") refl refl refl) (c.both (open_token S) (c.both known.1 (close_token S)))))))
 
@@ -231,8 +231,8 @@ atom_held S know x ls good (inr (inr (inl h))) = literal_held S x ls good h
 atom_held S know x ls good (inr (inr (inr (inl h)))) = option_held S know x ls good h
 atom_held S know x ls good (inr (inr (inr (inr h)))) = looser S 5 6 x (length ls) (omega arith) (path_held S know x ls good h)
 
-pub not_as : (y x : Expr) (a b : ℕ) → AsExpr x y → AsExpr (e.Not x b) (e.Not y a)
-not_as y x a b r = layer.Not_stripped y a ∙ ap (λ z. e.Not z 0) r ∙ sym (layer.Not_stripped x b)
+pub not_as : (y x : Expr) (a b : ℕ) → AsExpr x y → AsExpr (e.Not b x) (e.Not a y)
+not_as y x a b r = layer.Not_stripped y a ∙ ap (λ z. e.Not 0 z) r ∙ sym (layer.Not_stripped x b)
 
 pub unary_held : (S : Pieces) → Knows S → (x : Expr) (ls : List Piece) → AreGood ls → Spells S unary x ls → Held S 4 x (length ls)
 unfolding unary
@@ -240,8 +240,8 @@ unary_held S know x ls good (inl (v, is, (p, q, g, (po, oa), d))) =
     let h = atom_held S know v.1 q (good_back ls p q g good) d in
     let one : length ls ≡ length p + length q = size_of ls p q g in
     subst (λ z. Held S 4 z (length ls)) (sym is)
-    (held S 4 (e.Not v.1 v.0.at) (expr_spelling (Expr-F.Not (spelled_expr v.1) v.0.at)) (length ls) (layer.Not_spelled v.1 v.0.at) (omega arith)
+    (held S 4 (e.Not v.0.at v.1) (expr_spelling (Expr-F.Not v.0.at (spelled_expr v.1))) (length ls) (layer.Not_spelled v.1 v.0.at) (omega arith)
     (c.rewritten refl (omega (arith, size_one p v.0 po))
-    (moved (λ z. e.Not z.1 z.0.at) (λ z r. not_as z.1 v.1 z.0.at v.0.at r.1) (λ z ks d. inl (z, refl, d))
+    (moved (λ z. e.Not z.0.at z.1) (λ z r. not_as z.1 v.1 z.0.at v.0.at r.1) (λ z ks d. inl (z, refl, d))
     (c.both (not_sign_token S) (held_at S 5 (omega arith) v.1 (length q) h)))))
 unary_held S know x ls good (inr h) = looser S 4 5 x (length ls) (omega arith) (atom_held S know x ls good h)

@@ -46,93 +46,93 @@ filters_same (x ∷ xs) = ap (λ z. z ∷ map spelled_filter (map stripped_filte
 
 expr_step : (y : Expr-F SureExpr SureItem SureSet SureFilter)
     → ExprSame (roll-Expr (map-Expr SureExpr SureItem SureSet SureFilter Expr Item SetExpr Filter (λ e. e.0) (λ e. e.0) (λ e. e.0) (λ e. e.0) y))
-expr_step (Expr-F.Flag true at) = ap spelled_expr (fold-roll-Expr Expr Item SetExpr Filter expr_level item_level set_level filter_level (Expr-F.Flag true at)) ∙ layer.Flag_spelled true 0 ∙ sym (fold-roll-Expr Spelling (List Mark) Spelling (List Mark) expr_spelling item_spelling set_spelling filter_spelling (Expr-F.Flag true at))
-expr_step (Expr-F.Flag false at) = ap spelled_expr (fold-roll-Expr Expr Item SetExpr Filter expr_level item_level set_level filter_level (Expr-F.Flag false at)) ∙ layer.Flag_spelled false 0 ∙ sym (fold-roll-Expr Spelling (List Mark) Spelling (List Mark) expr_spelling item_spelling set_spelling filter_spelling (Expr-F.Flag false at))
-expr_step (Expr-F.Num v at) =
-    ap spelled_expr (fold-roll-Expr Expr Item SetExpr Filter expr_level item_level set_level filter_level (Expr-F.Num v at)) ∙ layer.Num_spelled v 0 ∙ sym (fold-roll-Expr Spelling (List Mark) Spelling (List Mark) expr_spelling item_spelling set_spelling filter_spelling (Expr-F.Num v at))
-expr_step (Expr-F.Str txt at) =
-    ap spelled_expr (fold-roll-Expr Expr Item SetExpr Filter expr_level item_level set_level filter_level (Expr-F.Str txt at)) ∙ layer.Str_spelled txt 0 ∙ sym (fold-roll-Expr Spelling (List Mark) Spelling (List Mark) expr_spelling item_spelling set_spelling filter_spelling (Expr-F.Str txt at))
-expr_step (Expr-F.Var x at) =
-    ap spelled_expr (fold-roll-Expr Expr Item SetExpr Filter expr_level item_level set_level filter_level (Expr-F.Var x at)) ∙ layer.Var_spelled (stripped_name x) 0 ∙ sym (fold-roll-Expr Spelling (List Mark) Spelling (List Mark) expr_spelling item_spelling set_spelling filter_spelling (Expr-F.Var x at))
+expr_step (Expr-F.Flag at true) = ap spelled_expr (fold-roll-Expr Expr Item SetExpr Filter expr_level item_level set_level filter_level (Expr-F.Flag at true)) ∙ layer.Flag_spelled true 0 ∙ sym (fold-roll-Expr Spelling (List Mark) Spelling (List Mark) expr_spelling item_spelling set_spelling filter_spelling (Expr-F.Flag at true))
+expr_step (Expr-F.Flag at false) = ap spelled_expr (fold-roll-Expr Expr Item SetExpr Filter expr_level item_level set_level filter_level (Expr-F.Flag at false)) ∙ layer.Flag_spelled false 0 ∙ sym (fold-roll-Expr Spelling (List Mark) Spelling (List Mark) expr_spelling item_spelling set_spelling filter_spelling (Expr-F.Flag at false))
+expr_step (Expr-F.Num at v) =
+    ap spelled_expr (fold-roll-Expr Expr Item SetExpr Filter expr_level item_level set_level filter_level (Expr-F.Num at v)) ∙ layer.Num_spelled v 0 ∙ sym (fold-roll-Expr Spelling (List Mark) Spelling (List Mark) expr_spelling item_spelling set_spelling filter_spelling (Expr-F.Num at v))
+expr_step (Expr-F.Str at txt) =
+    ap spelled_expr (fold-roll-Expr Expr Item SetExpr Filter expr_level item_level set_level filter_level (Expr-F.Str at txt)) ∙ layer.Str_spelled txt 0 ∙ sym (fold-roll-Expr Spelling (List Mark) Spelling (List Mark) expr_spelling item_spelling set_spelling filter_spelling (Expr-F.Str at txt))
+expr_step (Expr-F.Var at x) =
+    ap spelled_expr (fold-roll-Expr Expr Item SetExpr Filter expr_level item_level set_level filter_level (Expr-F.Var at x)) ∙ layer.Var_spelled (stripped_name x) 0 ∙ sym (fold-roll-Expr Spelling (List Mark) Spelling (List Mark) expr_spelling item_spelling set_spelling filter_spelling (Expr-F.Var at x))
 expr_step (Expr-F.NoneLit at) =
     ap spelled_expr (fold-roll-Expr Expr Item SetExpr Filter expr_level item_level set_level filter_level (Expr-F.NoneLit at)) ∙ layer.NoneLit_spelled 0 ∙ sym (fold-roll-Expr Spelling (List Mark) Spelling (List Mark) expr_spelling item_spelling set_spelling filter_spelling (Expr-F.NoneLit at))
-expr_step (Expr-F.SomeLit a at) =
-    ap spelled_expr (fold-roll-Expr Expr Item SetExpr Filter expr_level item_level set_level filter_level (Expr-F.SomeLit a.0 at)) ∙ layer.SomeLit_spelled (stripped_expr a.0) 0
-    ∙ ap (λ z. expr_spelling (Expr-F.SomeLit z 0)) a.1 ∙ sym (fold-roll-Expr Spelling (List Mark) Spelling (List Mark) expr_spelling item_spelling set_spelling filter_spelling (Expr-F.SomeLit a.0 at))
-expr_step (Expr-F.Get a f at) =
-    ap spelled_expr (fold-roll-Expr Expr Item SetExpr Filter expr_level item_level set_level filter_level (Expr-F.Get a.0 f at)) ∙ layer.Get_spelled (stripped_expr a.0) (stripped_name f) 0
-    ∙ ap (λ z. expr_spelling (Expr-F.Get z (stripped_name f) 0)) a.1 ∙ sym (fold-roll-Expr Spelling (List Mark) Spelling (List Mark) expr_spelling item_spelling set_spelling filter_spelling (Expr-F.Get a.0 f at))
-expr_step (Expr-F.Cmp op a b at) =
-    ap spelled_expr (fold-roll-Expr Expr Item SetExpr Filter expr_level item_level set_level filter_level (Expr-F.Cmp op a.0 b.0 at)) ∙ layer.Cmp_spelled op (stripped_expr a.0) (stripped_expr b.0) 0
-    ∙ ap (λ z. expr_spelling (Expr-F.Cmp op z (spelled_expr (stripped_expr b.0)) 0)) a.1
-    ∙ ap (λ z. expr_spelling (Expr-F.Cmp op (spelled_expr a.0) z 0)) b.1 ∙ sym (fold-roll-Expr Spelling (List Mark) Spelling (List Mark) expr_spelling item_spelling set_spelling filter_spelling (Expr-F.Cmp op a.0 b.0 at))
-expr_step (Expr-F.Member a t at) =
-    ap spelled_expr (fold-roll-Expr Expr Item SetExpr Filter expr_level item_level set_level filter_level (Expr-F.Member a.0 t.0 at)) ∙ layer.Member_spelled (stripped_expr a.0) (stripped_set t.0) 0
-    ∙ ap (λ z. expr_spelling (Expr-F.Member z (spelled_set (stripped_set t.0)) 0)) a.1
-    ∙ ap (λ z. expr_spelling (Expr-F.Member (spelled_expr a.0) z 0)) t.1 ∙ sym (fold-roll-Expr Spelling (List Mark) Spelling (List Mark) expr_spelling item_spelling set_spelling filter_spelling (Expr-F.Member a.0 t.0 at))
-expr_step (Expr-F.Not a at) =
-    ap spelled_expr (fold-roll-Expr Expr Item SetExpr Filter expr_level item_level set_level filter_level (Expr-F.Not a.0 at)) ∙ layer.Not_spelled (stripped_expr a.0) 0
-    ∙ ap (λ z. expr_spelling (Expr-F.Not z 0)) a.1 ∙ sym (fold-roll-Expr Spelling (List Mark) Spelling (List Mark) expr_spelling item_spelling set_spelling filter_spelling (Expr-F.Not a.0 at))
-expr_step (Expr-F.And a b at) =
-    ap spelled_expr (fold-roll-Expr Expr Item SetExpr Filter expr_level item_level set_level filter_level (Expr-F.And a.0 b.0 at)) ∙ layer.And_spelled (stripped_expr a.0) (stripped_expr b.0) 0
-    ∙ ap (λ z. expr_spelling (Expr-F.And z (spelled_expr (stripped_expr b.0)) 0)) a.1
-    ∙ ap (λ z. expr_spelling (Expr-F.And (spelled_expr a.0) z 0)) b.1 ∙ sym (fold-roll-Expr Spelling (List Mark) Spelling (List Mark) expr_spelling item_spelling set_spelling filter_spelling (Expr-F.And a.0 b.0 at))
-expr_step (Expr-F.Or a b at) =
-    ap spelled_expr (fold-roll-Expr Expr Item SetExpr Filter expr_level item_level set_level filter_level (Expr-F.Or a.0 b.0 at)) ∙ layer.Or_spelled (stripped_expr a.0) (stripped_expr b.0) 0
-    ∙ ap (λ z. expr_spelling (Expr-F.Or z (spelled_expr (stripped_expr b.0)) 0)) a.1
-    ∙ ap (λ z. expr_spelling (Expr-F.Or (spelled_expr a.0) z 0)) b.1 ∙ sym (fold-roll-Expr Spelling (List Mark) Spelling (List Mark) expr_spelling item_spelling set_spelling filter_spelling (Expr-F.Or a.0 b.0 at))
-expr_step (Expr-F.IfE a b d at) =
-    ap spelled_expr (fold-roll-Expr Expr Item SetExpr Filter expr_level item_level set_level filter_level (Expr-F.IfE a.0 b.0 d.0 at)) ∙ layer.IfE_spelled (stripped_expr a.0) (stripped_expr b.0) (stripped_expr d.0) 0
-    ∙ ap (λ z. expr_spelling (Expr-F.IfE z (spelled_expr (stripped_expr b.0)) (spelled_expr (stripped_expr d.0)) 0)) a.1
-    ∙ ap (λ z. expr_spelling (Expr-F.IfE (spelled_expr a.0) z (spelled_expr (stripped_expr d.0)) 0)) b.1
-    ∙ ap (λ z. expr_spelling (Expr-F.IfE (spelled_expr a.0) (spelled_expr b.0) z 0)) d.1 ∙ sym (fold-roll-Expr Spelling (List Mark) Spelling (List Mark) expr_spelling item_spelling set_spelling filter_spelling (Expr-F.IfE a.0 b.0 d.0 at))
-expr_step (Expr-F.MatchE a b x d at) =
-    ap spelled_expr (fold-roll-Expr Expr Item SetExpr Filter expr_level item_level set_level filter_level (Expr-F.MatchE a.0 b.0 x d.0 at)) ∙ layer.MatchE_spelled (stripped_expr a.0) (stripped_expr b.0) (stripped_name x) (stripped_expr d.0) 0
-    ∙ ap (λ z. expr_spelling (Expr-F.MatchE z (spelled_expr (stripped_expr b.0)) (stripped_name x) (spelled_expr (stripped_expr d.0)) 0)) a.1
-    ∙ ap (λ z. expr_spelling (Expr-F.MatchE (spelled_expr a.0) z (stripped_name x) (spelled_expr (stripped_expr d.0)) 0)) b.1
-    ∙ ap (λ z. expr_spelling (Expr-F.MatchE (spelled_expr a.0) (spelled_expr b.0) (stripped_name x) z 0)) d.1 ∙ sym (fold-roll-Expr Spelling (List Mark) Spelling (List Mark) expr_spelling item_spelling set_spelling filter_spelling (Expr-F.MatchE a.0 b.0 x d.0 at))
+expr_step (Expr-F.SomeLit at a) =
+    ap spelled_expr (fold-roll-Expr Expr Item SetExpr Filter expr_level item_level set_level filter_level (Expr-F.SomeLit at a.0)) ∙ layer.SomeLit_spelled (stripped_expr a.0) 0
+    ∙ ap (λ z. expr_spelling (Expr-F.SomeLit 0 z)) a.1 ∙ sym (fold-roll-Expr Spelling (List Mark) Spelling (List Mark) expr_spelling item_spelling set_spelling filter_spelling (Expr-F.SomeLit at a.0))
+expr_step (Expr-F.Get at a f) =
+    ap spelled_expr (fold-roll-Expr Expr Item SetExpr Filter expr_level item_level set_level filter_level (Expr-F.Get at a.0 f)) ∙ layer.Get_spelled (stripped_expr a.0) (stripped_name f) 0
+    ∙ ap (λ z. expr_spelling (Expr-F.Get 0 z (stripped_name f))) a.1 ∙ sym (fold-roll-Expr Spelling (List Mark) Spelling (List Mark) expr_spelling item_spelling set_spelling filter_spelling (Expr-F.Get at a.0 f))
+expr_step (Expr-F.Cmp at op a b) =
+    ap spelled_expr (fold-roll-Expr Expr Item SetExpr Filter expr_level item_level set_level filter_level (Expr-F.Cmp at op a.0 b.0)) ∙ layer.Cmp_spelled op (stripped_expr a.0) (stripped_expr b.0) 0
+    ∙ ap (λ z. expr_spelling (Expr-F.Cmp 0 op z (spelled_expr (stripped_expr b.0)))) a.1
+    ∙ ap (λ z. expr_spelling (Expr-F.Cmp 0 op (spelled_expr a.0) z)) b.1 ∙ sym (fold-roll-Expr Spelling (List Mark) Spelling (List Mark) expr_spelling item_spelling set_spelling filter_spelling (Expr-F.Cmp at op a.0 b.0))
+expr_step (Expr-F.Member at a t) =
+    ap spelled_expr (fold-roll-Expr Expr Item SetExpr Filter expr_level item_level set_level filter_level (Expr-F.Member at a.0 t.0)) ∙ layer.Member_spelled (stripped_expr a.0) (stripped_set t.0) 0
+    ∙ ap (λ z. expr_spelling (Expr-F.Member 0 z (spelled_set (stripped_set t.0)))) a.1
+    ∙ ap (λ z. expr_spelling (Expr-F.Member 0 (spelled_expr a.0) z)) t.1 ∙ sym (fold-roll-Expr Spelling (List Mark) Spelling (List Mark) expr_spelling item_spelling set_spelling filter_spelling (Expr-F.Member at a.0 t.0))
+expr_step (Expr-F.Not at a) =
+    ap spelled_expr (fold-roll-Expr Expr Item SetExpr Filter expr_level item_level set_level filter_level (Expr-F.Not at a.0)) ∙ layer.Not_spelled (stripped_expr a.0) 0
+    ∙ ap (λ z. expr_spelling (Expr-F.Not 0 z)) a.1 ∙ sym (fold-roll-Expr Spelling (List Mark) Spelling (List Mark) expr_spelling item_spelling set_spelling filter_spelling (Expr-F.Not at a.0))
+expr_step (Expr-F.And at a b) =
+    ap spelled_expr (fold-roll-Expr Expr Item SetExpr Filter expr_level item_level set_level filter_level (Expr-F.And at a.0 b.0)) ∙ layer.And_spelled (stripped_expr a.0) (stripped_expr b.0) 0
+    ∙ ap (λ z. expr_spelling (Expr-F.And 0 z (spelled_expr (stripped_expr b.0)))) a.1
+    ∙ ap (λ z. expr_spelling (Expr-F.And 0 (spelled_expr a.0) z)) b.1 ∙ sym (fold-roll-Expr Spelling (List Mark) Spelling (List Mark) expr_spelling item_spelling set_spelling filter_spelling (Expr-F.And at a.0 b.0))
+expr_step (Expr-F.Or at a b) =
+    ap spelled_expr (fold-roll-Expr Expr Item SetExpr Filter expr_level item_level set_level filter_level (Expr-F.Or at a.0 b.0)) ∙ layer.Or_spelled (stripped_expr a.0) (stripped_expr b.0) 0
+    ∙ ap (λ z. expr_spelling (Expr-F.Or 0 z (spelled_expr (stripped_expr b.0)))) a.1
+    ∙ ap (λ z. expr_spelling (Expr-F.Or 0 (spelled_expr a.0) z)) b.1 ∙ sym (fold-roll-Expr Spelling (List Mark) Spelling (List Mark) expr_spelling item_spelling set_spelling filter_spelling (Expr-F.Or at a.0 b.0))
+expr_step (Expr-F.IfE at a b d) =
+    ap spelled_expr (fold-roll-Expr Expr Item SetExpr Filter expr_level item_level set_level filter_level (Expr-F.IfE at a.0 b.0 d.0)) ∙ layer.IfE_spelled (stripped_expr a.0) (stripped_expr b.0) (stripped_expr d.0) 0
+    ∙ ap (λ z. expr_spelling (Expr-F.IfE 0 z (spelled_expr (stripped_expr b.0)) (spelled_expr (stripped_expr d.0)))) a.1
+    ∙ ap (λ z. expr_spelling (Expr-F.IfE 0 (spelled_expr a.0) z (spelled_expr (stripped_expr d.0)))) b.1
+    ∙ ap (λ z. expr_spelling (Expr-F.IfE 0 (spelled_expr a.0) (spelled_expr b.0) z)) d.1 ∙ sym (fold-roll-Expr Spelling (List Mark) Spelling (List Mark) expr_spelling item_spelling set_spelling filter_spelling (Expr-F.IfE at a.0 b.0 d.0))
+expr_step (Expr-F.MatchE at a b (x, d)) =
+    ap spelled_expr (fold-roll-Expr Expr Item SetExpr Filter expr_level item_level set_level filter_level (Expr-F.MatchE at a.0 b.0 (x, d.0))) ∙ layer.MatchE_spelled (stripped_expr a.0) (stripped_expr b.0) (stripped_name x) (stripped_expr d.0) 0
+    ∙ ap (λ z. expr_spelling (Expr-F.MatchE 0 z (spelled_expr (stripped_expr b.0)) (stripped_name x, spelled_expr (stripped_expr d.0)))) a.1
+    ∙ ap (λ z. expr_spelling (Expr-F.MatchE 0 (spelled_expr a.0) z (stripped_name x, spelled_expr (stripped_expr d.0)))) b.1
+    ∙ ap (λ z. expr_spelling (Expr-F.MatchE 0 (spelled_expr a.0) (spelled_expr b.0) (stripped_name x, z))) d.1 ∙ sym (fold-roll-Expr Spelling (List Mark) Spelling (List Mark) expr_spelling item_spelling set_spelling filter_spelling (Expr-F.MatchE at a.0 b.0 (x, d.0)))
 
 set_step : (y : SetExpr-F SureExpr SureItem SureSet SureFilter)
     → SetSame (roll-SetExpr (map-SetExpr SureExpr SureItem SureSet SureFilter Expr Item SetExpr Filter (λ e. e.0) (λ e. e.0) (λ e. e.0) (λ e. e.0) y))
-set_step (SetExpr-F.Everyone w at) =
-    ap spelled_set (fold-roll-SetExpr Expr Item SetExpr Filter expr_level item_level set_level filter_level (SetExpr-F.Everyone w at)) ∙ layer.Everyone_spelled 0 0 ∙ sym (fold-roll-SetExpr Spelling (List Mark) Spelling (List Mark) expr_spelling item_spelling set_spelling filter_spelling (SetExpr-F.Everyone w at))
+set_step (SetExpr-F.Everyone at w) =
+    ap spelled_set (fold-roll-SetExpr Expr Item SetExpr Filter expr_level item_level set_level filter_level (SetExpr-F.Everyone at w)) ∙ layer.Everyone_spelled 0 0 ∙ sym (fold-roll-SetExpr Spelling (List Mark) Spelling (List Mark) expr_spelling item_spelling set_spelling filter_spelling (SetExpr-F.Everyone at w))
 set_step (SetExpr-F.Nobody at) =
     ap spelled_set (fold-roll-SetExpr Expr Item SetExpr Filter expr_level item_level set_level filter_level (SetExpr-F.Nobody at)) ∙ layer.Nobody_spelled 0 ∙ sym (fold-roll-SetExpr Spelling (List Mark) Spelling (List Mark) expr_spelling item_spelling set_spelling filter_spelling (SetExpr-F.Nobody at))
-set_step (SetExpr-F.List xs at) =
-    ap spelled_set (fold-roll-SetExpr Expr Item SetExpr Filter expr_level item_level set_level filter_level (SetExpr-F.List (map (λ e. e.0) xs) at)) ∙ layer.List_spelled (map stripped_item (map (λ e. e.0) xs)) 0
-    ∙ ap (λ z. set_spelling (SetExpr-F.List z 0)) (items_same xs) ∙ sym (fold-roll-SetExpr Spelling (List Mark) Spelling (List Mark) expr_spelling item_spelling set_spelling filter_spelling (SetExpr-F.List (map (λ e. e.0) xs) at))
-set_step (SetExpr-F.Sum t u at) =
-    ap spelled_set (fold-roll-SetExpr Expr Item SetExpr Filter expr_level item_level set_level filter_level (SetExpr-F.Sum t.0 u.0 at)) ∙ layer.Sum_spelled (stripped_set t.0) (stripped_set u.0) 0
-    ∙ ap (λ z. set_spelling (SetExpr-F.Sum z (spelled_set (stripped_set u.0)) 0)) t.1
-    ∙ ap (λ z. set_spelling (SetExpr-F.Sum (spelled_set t.0) z 0)) u.1 ∙ sym (fold-roll-SetExpr Spelling (List Mark) Spelling (List Mark) expr_spelling item_spelling set_spelling filter_spelling (SetExpr-F.Sum t.0 u.0 at))
-set_step (SetExpr-F.Less t u at) =
-    ap spelled_set (fold-roll-SetExpr Expr Item SetExpr Filter expr_level item_level set_level filter_level (SetExpr-F.Less t.0 u.0 at)) ∙ layer.Less_spelled (stripped_set t.0) (stripped_set u.0) 0
-    ∙ ap (λ z. set_spelling (SetExpr-F.Less z (spelled_set (stripped_set u.0)) 0)) t.1
-    ∙ ap (λ z. set_spelling (SetExpr-F.Less (spelled_set t.0) z 0)) u.1 ∙ sym (fold-roll-SetExpr Spelling (List Mark) Spelling (List Mark) expr_spelling item_spelling set_spelling filter_spelling (SetExpr-F.Less t.0 u.0 at))
-set_step (SetExpr-F.Find x fs at) =
-    ap spelled_set (fold-roll-SetExpr Expr Item SetExpr Filter expr_level item_level set_level filter_level (SetExpr-F.Find x (map (λ e. e.0) fs) at)) ∙ layer.Find_spelled (stripped_name x) (map stripped_filter (map (λ e. e.0) fs)) 0
-    ∙ ap (λ z. set_spelling (SetExpr-F.Find (stripped_name x) z 0)) (filters_same fs) ∙ sym (fold-roll-SetExpr Spelling (List Mark) Spelling (List Mark) expr_spelling item_spelling set_spelling filter_spelling (SetExpr-F.Find x (map (λ e. e.0) fs) at))
-set_step (SetExpr-F.Path a at) =
-    ap spelled_set (fold-roll-SetExpr Expr Item SetExpr Filter expr_level item_level set_level filter_level (SetExpr-F.Path a.0 at)) ∙ layer.Path_spelled (stripped_expr a.0) 0
-    ∙ ap (λ z. set_spelling (SetExpr-F.Path z 0)) a.1 ∙ sym (fold-roll-SetExpr Spelling (List Mark) Spelling (List Mark) expr_spelling item_spelling set_spelling filter_spelling (SetExpr-F.Path a.0 at))
-set_step (SetExpr-F.MapS t x a at) =
-    ap spelled_set (fold-roll-SetExpr Expr Item SetExpr Filter expr_level item_level set_level filter_level (SetExpr-F.MapS t.0 x a.0 at)) ∙ layer.MapS_spelled (stripped_set t.0) (stripped_name x) (stripped_expr a.0) 0
-    ∙ ap (λ z. set_spelling (SetExpr-F.MapS z (stripped_name x) (spelled_expr (stripped_expr a.0)) 0)) t.1
-    ∙ ap (λ z. set_spelling (SetExpr-F.MapS (spelled_set t.0) (stripped_name x) z 0)) a.1 ∙ sym (fold-roll-SetExpr Spelling (List Mark) Spelling (List Mark) expr_spelling item_spelling set_spelling filter_spelling (SetExpr-F.MapS t.0 x a.0 at))
-set_step (SetExpr-F.FlatS t x u at) =
-    ap spelled_set (fold-roll-SetExpr Expr Item SetExpr Filter expr_level item_level set_level filter_level (SetExpr-F.FlatS t.0 x u.0 at)) ∙ layer.FlatS_spelled (stripped_set t.0) (stripped_name x) (stripped_set u.0) 0
-    ∙ ap (λ z. set_spelling (SetExpr-F.FlatS z (stripped_name x) (spelled_set (stripped_set u.0)) 0)) t.1
-    ∙ ap (λ z. set_spelling (SetExpr-F.FlatS (spelled_set t.0) (stripped_name x) z 0)) u.1 ∙ sym (fold-roll-SetExpr Spelling (List Mark) Spelling (List Mark) expr_spelling item_spelling set_spelling filter_spelling (SetExpr-F.FlatS t.0 x u.0 at))
-set_step (SetExpr-F.IfS a t u at) =
-    ap spelled_set (fold-roll-SetExpr Expr Item SetExpr Filter expr_level item_level set_level filter_level (SetExpr-F.IfS a.0 t.0 u.0 at)) ∙ layer.IfS_spelled (stripped_expr a.0) (stripped_set t.0) (stripped_set u.0) 0
-    ∙ ap (λ z. set_spelling (SetExpr-F.IfS z (spelled_set (stripped_set t.0)) (spelled_set (stripped_set u.0)) 0)) a.1
-    ∙ ap (λ z. set_spelling (SetExpr-F.IfS (spelled_expr a.0) z (spelled_set (stripped_set u.0)) 0)) t.1
-    ∙ ap (λ z. set_spelling (SetExpr-F.IfS (spelled_expr a.0) (spelled_set t.0) z 0)) u.1 ∙ sym (fold-roll-SetExpr Spelling (List Mark) Spelling (List Mark) expr_spelling item_spelling set_spelling filter_spelling (SetExpr-F.IfS a.0 t.0 u.0 at))
-set_step (SetExpr-F.MatchS a t x u at) =
-    ap spelled_set (fold-roll-SetExpr Expr Item SetExpr Filter expr_level item_level set_level filter_level (SetExpr-F.MatchS a.0 t.0 x u.0 at)) ∙ layer.MatchS_spelled (stripped_expr a.0) (stripped_set t.0) (stripped_name x) (stripped_set u.0) 0
-    ∙ ap (λ z. set_spelling (SetExpr-F.MatchS z (spelled_set (stripped_set t.0)) (stripped_name x) (spelled_set (stripped_set u.0)) 0)) a.1
-    ∙ ap (λ z. set_spelling (SetExpr-F.MatchS (spelled_expr a.0) z (stripped_name x) (spelled_set (stripped_set u.0)) 0)) t.1
-    ∙ ap (λ z. set_spelling (SetExpr-F.MatchS (spelled_expr a.0) (spelled_set t.0) (stripped_name x) z 0)) u.1 ∙ sym (fold-roll-SetExpr Spelling (List Mark) Spelling (List Mark) expr_spelling item_spelling set_spelling filter_spelling (SetExpr-F.MatchS a.0 t.0 x u.0 at))
+set_step (SetExpr-F.List at xs) =
+    ap spelled_set (fold-roll-SetExpr Expr Item SetExpr Filter expr_level item_level set_level filter_level (SetExpr-F.List at (map (λ e. e.0) xs))) ∙ layer.List_spelled (map stripped_item (map (λ e. e.0) xs)) 0
+    ∙ ap (λ z. set_spelling (SetExpr-F.List 0 z)) (items_same xs) ∙ sym (fold-roll-SetExpr Spelling (List Mark) Spelling (List Mark) expr_spelling item_spelling set_spelling filter_spelling (SetExpr-F.List at (map (λ e. e.0) xs)))
+set_step (SetExpr-F.Sum at t u) =
+    ap spelled_set (fold-roll-SetExpr Expr Item SetExpr Filter expr_level item_level set_level filter_level (SetExpr-F.Sum at t.0 u.0)) ∙ layer.Sum_spelled (stripped_set t.0) (stripped_set u.0) 0
+    ∙ ap (λ z. set_spelling (SetExpr-F.Sum 0 z (spelled_set (stripped_set u.0)))) t.1
+    ∙ ap (λ z. set_spelling (SetExpr-F.Sum 0 (spelled_set t.0) z)) u.1 ∙ sym (fold-roll-SetExpr Spelling (List Mark) Spelling (List Mark) expr_spelling item_spelling set_spelling filter_spelling (SetExpr-F.Sum at t.0 u.0))
+set_step (SetExpr-F.Less at t u) =
+    ap spelled_set (fold-roll-SetExpr Expr Item SetExpr Filter expr_level item_level set_level filter_level (SetExpr-F.Less at t.0 u.0)) ∙ layer.Less_spelled (stripped_set t.0) (stripped_set u.0) 0
+    ∙ ap (λ z. set_spelling (SetExpr-F.Less 0 z (spelled_set (stripped_set u.0)))) t.1
+    ∙ ap (λ z. set_spelling (SetExpr-F.Less 0 (spelled_set t.0) z)) u.1 ∙ sym (fold-roll-SetExpr Spelling (List Mark) Spelling (List Mark) expr_spelling item_spelling set_spelling filter_spelling (SetExpr-F.Less at t.0 u.0))
+set_step (SetExpr-F.Find at x fs) =
+    ap spelled_set (fold-roll-SetExpr Expr Item SetExpr Filter expr_level item_level set_level filter_level (SetExpr-F.Find at x (map (λ e. e.0) fs))) ∙ layer.Find_spelled (stripped_name x) (map stripped_filter (map (λ e. e.0) fs)) 0
+    ∙ ap (λ z. set_spelling (SetExpr-F.Find 0 (stripped_name x) z)) (filters_same fs) ∙ sym (fold-roll-SetExpr Spelling (List Mark) Spelling (List Mark) expr_spelling item_spelling set_spelling filter_spelling (SetExpr-F.Find at x (map (λ e. e.0) fs)))
+set_step (SetExpr-F.Path at a) =
+    ap spelled_set (fold-roll-SetExpr Expr Item SetExpr Filter expr_level item_level set_level filter_level (SetExpr-F.Path at a.0)) ∙ layer.Path_spelled (stripped_expr a.0) 0
+    ∙ ap (λ z. set_spelling (SetExpr-F.Path 0 z)) a.1 ∙ sym (fold-roll-SetExpr Spelling (List Mark) Spelling (List Mark) expr_spelling item_spelling set_spelling filter_spelling (SetExpr-F.Path at a.0))
+set_step (SetExpr-F.MapS at t x a) =
+    ap spelled_set (fold-roll-SetExpr Expr Item SetExpr Filter expr_level item_level set_level filter_level (SetExpr-F.MapS at t.0 x a.0)) ∙ layer.MapS_spelled (stripped_set t.0) (stripped_name x) (stripped_expr a.0) 0
+    ∙ ap (λ z. set_spelling (SetExpr-F.MapS 0 z (stripped_name x) (spelled_expr (stripped_expr a.0)))) t.1
+    ∙ ap (λ z. set_spelling (SetExpr-F.MapS 0 (spelled_set t.0) (stripped_name x) z)) a.1 ∙ sym (fold-roll-SetExpr Spelling (List Mark) Spelling (List Mark) expr_spelling item_spelling set_spelling filter_spelling (SetExpr-F.MapS at t.0 x a.0))
+set_step (SetExpr-F.FlatS at t x u) =
+    ap spelled_set (fold-roll-SetExpr Expr Item SetExpr Filter expr_level item_level set_level filter_level (SetExpr-F.FlatS at t.0 x u.0)) ∙ layer.FlatS_spelled (stripped_set t.0) (stripped_name x) (stripped_set u.0) 0
+    ∙ ap (λ z. set_spelling (SetExpr-F.FlatS 0 z (stripped_name x) (spelled_set (stripped_set u.0)))) t.1
+    ∙ ap (λ z. set_spelling (SetExpr-F.FlatS 0 (spelled_set t.0) (stripped_name x) z)) u.1 ∙ sym (fold-roll-SetExpr Spelling (List Mark) Spelling (List Mark) expr_spelling item_spelling set_spelling filter_spelling (SetExpr-F.FlatS at t.0 x u.0))
+set_step (SetExpr-F.IfS at a t u) =
+    ap spelled_set (fold-roll-SetExpr Expr Item SetExpr Filter expr_level item_level set_level filter_level (SetExpr-F.IfS at a.0 t.0 u.0)) ∙ layer.IfS_spelled (stripped_expr a.0) (stripped_set t.0) (stripped_set u.0) 0
+    ∙ ap (λ z. set_spelling (SetExpr-F.IfS 0 z (spelled_set (stripped_set t.0)) (spelled_set (stripped_set u.0)))) a.1
+    ∙ ap (λ z. set_spelling (SetExpr-F.IfS 0 (spelled_expr a.0) z (spelled_set (stripped_set u.0)))) t.1
+    ∙ ap (λ z. set_spelling (SetExpr-F.IfS 0 (spelled_expr a.0) (spelled_set t.0) z)) u.1 ∙ sym (fold-roll-SetExpr Spelling (List Mark) Spelling (List Mark) expr_spelling item_spelling set_spelling filter_spelling (SetExpr-F.IfS at a.0 t.0 u.0))
+set_step (SetExpr-F.MatchS at a t x u) =
+    ap spelled_set (fold-roll-SetExpr Expr Item SetExpr Filter expr_level item_level set_level filter_level (SetExpr-F.MatchS at a.0 t.0 x u.0)) ∙ layer.MatchS_spelled (stripped_expr a.0) (stripped_set t.0) (stripped_name x) (stripped_set u.0) 0
+    ∙ ap (λ z. set_spelling (SetExpr-F.MatchS 0 z (spelled_set (stripped_set t.0)) (stripped_name x) (spelled_set (stripped_set u.0)))) a.1
+    ∙ ap (λ z. set_spelling (SetExpr-F.MatchS 0 (spelled_expr a.0) z (stripped_name x) (spelled_set (stripped_set u.0)))) t.1
+    ∙ ap (λ z. set_spelling (SetExpr-F.MatchS 0 (spelled_expr a.0) (spelled_set t.0) (stripped_name x) z)) u.1 ∙ sym (fold-roll-SetExpr Spelling (List Mark) Spelling (List Mark) expr_spelling item_spelling set_spelling filter_spelling (SetExpr-F.MatchS at a.0 t.0 x u.0))
 
 item_step : (y : Item-F SureExpr SureItem SureSet SureFilter)
     → ItemSame (roll-Item (map-Item SureExpr SureItem SureSet SureFilter Expr Item SetExpr Filter (λ e. e.0) (λ e. e.0) (λ e. e.0) (λ e. e.0) y))

@@ -89,18 +89,18 @@ item_c S know x ls good (inr (y, is, d)) =
     (c.rewritten (ap lexemes_of_marks (layer.One_spelled y)) (omega arith)
     (moved item.One (λ w r. layer.One_stripped w ∙ ap item.One r ∙ sym (layer.One_stripped y)) (λ w ks d. inr (w, refl, d)) (know.expr y ls good d).1))
 
-pub list_as : (xs ys : List Item) (a b : ℕ) → Same AsItem xs ys → AsSet (s.List xs b) (s.List ys a)
-list_as xs ys a b r = layer.List_stripped ys a ∙ ap (λ z. s.List z 0) (same_map stripped_item xs ys r) ∙ sym (layer.List_stripped xs b)
+pub list_as : (xs ys : List Item) (a b : ℕ) → Same AsItem xs ys → AsSet (s.List b xs) (s.List a ys)
+list_as xs ys a b r = layer.List_stripped ys a ∙ ap (λ z. s.List 0 z) (same_map stripped_item xs ys r) ∙ sym (layer.List_stripped xs b)
 
 pub list_held : (S : Pieces) → Knows S → (x : SetExpr) (ls : List Piece) → AreGood ls → Spells S list x ls → HeldSet S 2 x (length ls)
 unfolding list set_term
 list_held S know x ls good (v, is, d) =
     let i = inside S k.BracketOpen k.BracketClose (Spells S (listed item_form)) v ls good d in
     subst (λ z. HeldSet S 2 z (length ls)) (sym is)
-    (held_set S 2 (s.List v.1.0 v.0.at) (set_spelling (SetExpr-F.List (map spelled_item v.1.0) v.0.at)) (length ls) (layer.List_spelled v.1.0 v.0.at) (omega arith) (omega arith)
+    (held_set S 2 (s.List v.0.at v.1.0) (set_spelling (SetExpr-F.List v.0.at (map spelled_item v.1.0))) (length ls) (layer.List_spelled v.1.0 v.0.at) (omega arith) (omega arith)
     (c.rewritten (ap (λ z. at k.BracketOpen (sign_of k.BracketOpen) ∷ z) (lexemes_append (commas (map spelled_item v.1.0)) (mark.sign k.BracketClose ∷ [])))
     (let few : length i.inner + 2 ≤ length ls = i.fewer in omega arith)
-    (moved (λ z. s.List z.1.0 z.0.at) (λ z r. list_as v.1.0 z.1.0 z.0.at v.0.at r.1.0) (λ z ks d. inr (inr (inl (z, refl, d))))
+    (moved (λ z. s.List z.0.at z.1.0) (λ z r. list_as v.1.0 z.1.0 z.0.at v.0.at r.1.0) (λ z ks d. inr (inr (inl (z, refl, d))))
     (c.both (list_open_token S) (c.both (listed_c S item_form AsItem spelled_item (item_c S know) v.1.0 i.inner i.good i.spells) (list_close_token S))))))
 
 -- ---- filters

@@ -55,13 +55,13 @@ path_of_fields S x ls (v, is, (p, q, glue, name, rest)) = ((var_of v.0, v.1), is
 dotted : (S : Pieces) (x : Piece) (ls : List Piece) → Spells S (behind (sign k.Dot) (token Lower)) x ls → (IsToken (Sign k.Dot) then Spells S (token Lower) x) ls
 dotted S x ls (v, is, (p, q, glue, (dot, admits), h)) = (p, q, glue, (v.0, dot, admits), subst (λ z. Spells S (token Lower) z q) (sym is) h)
 
-pub chain_of_fields : (S : Pieces) (x : Expr) (ls : List Piece) → Spells S fields x ls → (at : ℕ) × Spells S path_chain (s.Path x at) ls
+pub chain_of_fields : (S : Pieces) (x : Expr) (ls : List Piece) → Spells S fields x ls → (at : ℕ) × Spells S path_chain (s.Path at x) ls
 unfolding path_chain
 chain_of_fields S x ls (v, is, (p, q, glue, name, (rest, t))) = (
   v.0.at,
   (
     (v.0, (v.1, λ of. of)),
-    ap (λ z. s.Path z v.0.at) is,
+    ap (λ z. s.Path v.0.at z) is,
     (
       p,
       q,
@@ -80,14 +80,14 @@ AsSet x y = stripped_set y ≡ stripped_set x
 abbrev pub set_lexemes : SetExpr → List Lexeme
 set_lexemes x = lexemes_of_marks (spelled_set x).marks
 
-pub path_as : (y x : Expr) (at place : ℕ) → AsExpr x y → AsSet (s.Path x place) (s.Path y at)
-path_as y x at place r = layer.Path_stripped y at ∙ ap (λ z. s.Path z 0) r ∙ sym (layer.Path_stripped x place)
+pub path_as : (y x : Expr) (at place : ℕ) → AsExpr x y → AsSet (s.Path place x) (s.Path at y)
+path_as y x at place r = layer.Path_stripped y at ∙ ap (λ z. s.Path 0 z) r ∙ sym (layer.Path_stripped x place)
 
 -- It is a variable with its fields, and what is printed spells that.
 pub record Bare (S : Pieces) (x : SetExpr) (most : ℕ) : Type 0 where
   pub inner : Expr
   pub place : ℕ
-  pub is : x ≡ s.Path inner place
+  pub is : x ≡ s.Path place inner
   pub reads : Canonical (AsExpr inner) (Spells S fields) (lexemes_of_marks (at_least 6 (spelled_expr inner))) most
 
 -- What is printed spells the set without parentheses.
@@ -144,7 +144,7 @@ bare_at S x most b =
     subst (λ z. Canonical (AsSet z) (Spells S set_term) (set_lexemes z) most) (sym b.is)
     (c.rewritten (ap (λ z. lexemes_of_marks z.marks) (layer.Path_spelled b.inner b.place)) (omega arith)
     (found (λ y ls r d. (let chain = chain_of_fields S y ls d in
-    (s.Path y chain.0, path_as y b.inner chain.0 b.place r, inr (inr (inr (inr (inr chain.1))))))) b.reads))
+    (s.Path chain.0 y, path_as y b.inner chain.0 b.place r, inr (inr (inr (inr (inr chain.1))))))) b.reads))
 
 pub firm_at : (S : Pieces) (r : ℕ) → r ≤ 2 → (x : SetExpr) (most : ℕ) → r ≤ (spelled_set x).rank → Firm S x most
     → Canonical (AsSet x) (Spells S (set_form_at r)) (set_lexemes x) most
@@ -174,10 +174,10 @@ set_held_at S r two x most (inr e) =
     ]
 
 -- A set with another place is held the same.
-moved_path : (at : ℕ) (inner : Expr) (place : ℕ) → placed_set at (s.Path inner place) ≡ s.Path inner at
+moved_path : (at : ℕ) (inner : Expr) (place : ℕ) → placed_set at (s.Path place inner) ≡ s.Path at inner
 unfolding placed_set
 moved_path at inner place =
-    ap (λ z. set_layer_moved at (out-SetExpr z)) (sym (s.rolls-Path inner place)) ∙ ap (set_layer_moved at) (out-roll-SetExpr (SetExpr-F.Path inner place))
+    ap (λ z. set_layer_moved at (out-SetExpr z)) (sym (s.rolls-Path place inner)) ∙ ap (set_layer_moved at) (out-roll-SetExpr (SetExpr-F.Path place inner))
 
 pub firm_as : (S : Pieces) (y : SetExpr) (at most : ℕ) → Firm S y most → Firm S (placed_set at y) most
 firm_as S y at most (inl b) =
@@ -206,7 +206,7 @@ unfolding container
 firm_container S x most (inl b) deep =
     subst (λ z. Canonical (AsSet z) (Spells S container) (lexemes_of_marks (container_marks (spelled_set z))) (most + 2)) (sym b.is)
     (c.rewritten (ap (λ z. lexemes_of_marks (container_marks z)) (layer.Path_spelled b.inner b.place)) (omega arith)
-    (moved (λ y. s.Path y (expr_at y)) (λ y r. path_as y b.inner (expr_at y) b.place r) (λ y ls d. inl (y, refl, path_of_fields S y ls d)) b.reads))
+    (moved (λ y. s.Path (expr_at y) y) (λ y r. path_as y b.inner (expr_at y) b.place r) (λ y ls d. inl (y, refl, path_of_fields S y ls d)) b.reads))
 firm_container S x most (inr (low, t)) deep =
     c.rewritten
     (ap lexemes_of_marks (container_more (spelled_set x) (not_three (spelled_set x).rank low))

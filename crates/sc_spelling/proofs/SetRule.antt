@@ -77,37 +77,37 @@ add_step S v ls (front, back, glue, (w, is, (a, b, g, first, (rest, t))), d) = (
   ),
 )
 
-pub sum_as : (u t : SetExpr) → AsSet t u → AsStep (λ left. s.Sum left t (set_at left)) (λ left. s.Sum left u (set_at left))
+pub sum_as : (u t : SetExpr) → AsSet t u → AsStep (λ left. s.Sum (set_at left) left t) (λ left. s.Sum (set_at left) left u)
 sum_as u t r x y h =
-    layer.Sum_stripped y u (set_at y) ∙ ap (λ z. s.Sum z (stripped_set u) 0) h ∙ ap (λ z. s.Sum (stripped_set x) z 0) r ∙ sym (layer.Sum_stripped x t (set_at x))
+    layer.Sum_stripped y u (set_at y) ∙ ap (λ z. s.Sum 0 z (stripped_set u)) h ∙ ap (λ z. s.Sum 0 (stripped_set x) z) r ∙ sym (layer.Sum_stripped x t (set_at x))
 
-sum_step : (S : Pieces) (t : SetExpr) (m : ℕ) → HeldSet S 2 t m → SumStep S (λ left. s.Sum left t (set_at left)) (suc m)
+sum_step : (S : Pieces) (t : SetExpr) (m : ℕ) → HeldSet S 2 t m → SumStep S (λ left. s.Sum (set_at left) left t) (suc m)
 unfolding set_step
 sum_step S t m j =
-    let added : Canonical (AsStep (λ left. s.Sum left t (set_at left))) (Spells S set_step) (at k.Plus (sign_of k.Plus) ∷ lexemes_of_marks (at_least 2 (spelled_set t))) (suc m) =
-    moved (λ u left. s.Sum left u (set_at left)) (λ u r. sum_as u t r) (λ u ks d. inl (u, refl, d))
+    let added : Canonical (AsStep (λ left. s.Sum (set_at left) left t)) (Spells S set_step) (at k.Plus (sign_of k.Plus) ∷ lexemes_of_marks (at_least 2 (spelled_set t))) (suc m) =
+    moved (λ u left. s.Sum (set_at left) left u) (λ u r. sum_as u t r) (λ u ks d. inl (u, refl, d))
     (behind_c S (Sign k.Plus) set_term (plus_token S) (set_held_at S 2 (omega arith) t m j)) in
     record {
       grows = λ x n h. (
-          held_set S 1 (s.Sum x t (set_at x)) (set_spelling (SetExpr-F.Sum (spelled_set x) (spelled_set t) (set_at x))) (n + suc m) (layer.Sum_spelled x t (set_at x))
+          held_set S 1 (s.Sum (set_at x) x t) (set_spelling (SetExpr-F.Sum (set_at x) (spelled_set x) (spelled_set t))) (n + suc m) (layer.Sum_spelled x t (set_at x))
           (omega arith) (omega arith)
           (c.rewritten (lexemes_append (at_least 1 (spelled_set x)) (between k.Plus ++ at_least 2 (spelled_set t))) (omega arith)
           (moved (λ w. w.1 w.0) (λ w r. r.1 x w.0 r.0) (add_step S) (c.both (set_held_at S 1 (omega arith) x n h) added))));
     }
 
-pub less_as : (u t : SetExpr) → AsSet t u → AsStep (λ left. s.Less left t (set_at left)) (λ left. s.Less left u (set_at left))
+pub less_as : (u t : SetExpr) → AsSet t u → AsStep (λ left. s.Less (set_at left) left t) (λ left. s.Less (set_at left) left u)
 less_as u t r x y h =
-    layer.Less_stripped y u (set_at y) ∙ ap (λ z. s.Less z (stripped_set u) 0) h ∙ ap (λ z. s.Less (stripped_set x) z 0) r ∙ sym (layer.Less_stripped x t (set_at x))
+    layer.Less_stripped y u (set_at y) ∙ ap (λ z. s.Less 0 z (stripped_set u)) h ∙ ap (λ z. s.Less 0 (stripped_set x) z) r ∙ sym (layer.Less_stripped x t (set_at x))
 
-less_step : (S : Pieces) (t : SetExpr) (m : ℕ) → HeldSet S 2 t m → SumStep S (λ left. s.Less left t (set_at left)) (suc m)
+less_step : (S : Pieces) (t : SetExpr) (m : ℕ) → HeldSet S 2 t m → SumStep S (λ left. s.Less (set_at left) left t) (suc m)
 unfolding set_step
 less_step S t m j =
-    let added : Canonical (AsStep (λ left. s.Less left t (set_at left))) (Spells S set_step) (at k.Minus (sign_of k.Minus) ∷ lexemes_of_marks (at_least 2 (spelled_set t))) (suc m) =
-    moved (λ u left. s.Less left u (set_at left)) (λ u r. less_as u t r) (λ u ks d. inr (u, refl, d))
+    let added : Canonical (AsStep (λ left. s.Less (set_at left) left t)) (Spells S set_step) (at k.Minus (sign_of k.Minus) ∷ lexemes_of_marks (at_least 2 (spelled_set t))) (suc m) =
+    moved (λ u left. s.Less (set_at left) left u) (λ u r. less_as u t r) (λ u ks d. inr (u, refl, d))
     (behind_c S (Sign k.Minus) set_term (minus_token S) (set_held_at S 2 (omega arith) t m j)) in
     record {
       grows = λ x n h. (
-          held_set S 1 (s.Less x t (set_at x)) (set_spelling (SetExpr-F.Less (spelled_set x) (spelled_set t) (set_at x))) (n + suc m) (layer.Less_spelled x t (set_at x))
+          held_set S 1 (s.Less (set_at x) x t) (set_spelling (SetExpr-F.Less (set_at x) (spelled_set x) (spelled_set t))) (n + suc m) (layer.Less_spelled x t (set_at x))
           (omega arith) (omega arith)
           (c.rewritten (lexemes_append (at_least 1 (spelled_set x)) (between k.Minus ++ at_least 2 (spelled_set t))) (omega arith)
           (moved (λ w. w.1 w.0) (λ w r. r.1 x w.0 r.0) (add_step S) (c.both (set_held_at S 1 (omega arith) x n h) added))));
@@ -119,14 +119,14 @@ step_c S know f ls good (inl (t, made, (u, same, (p, q, g, (pi, pa), d)))) =
     let a1 : length ls ≡ length p + length q = size_of ls p q g in
     let c1 : length p ≡ 1 = size_one p u.0 pi in
     let one = sum_step S u.1 (length q) (term_held S know u.1 q (good_back ls p q g good) d) in
-    subst (λ z. SumStep S z (length ls)) (sym (made ∙ ap (λ z left. s.Sum left z (set_at left)) same))
-    (record { grows = λ x n h. set_larger S 1 (s.Sum x u.1 (set_at x)) (n + suc (length q)) (n + length ls) (omega arith) (one.grows x n h) })
+    subst (λ z. SumStep S z (length ls)) (sym (made ∙ ap (λ z left. s.Sum (set_at left) left z) same))
+    (record { grows = λ x n h. set_larger S 1 (s.Sum (set_at x) x u.1) (n + suc (length q)) (n + length ls) (omega arith) (one.grows x n h) })
 step_c S know f ls good (inr (t, made, (u, same, (p, q, g, (pi, pa), d)))) =
     let a1 : length ls ≡ length p + length q = size_of ls p q g in
     let c1 : length p ≡ 1 = size_one p u.0 pi in
     let one = less_step S u.1 (length q) (term_held S know u.1 q (good_back ls p q g good) d) in
-    subst (λ z. SumStep S z (length ls)) (sym (made ∙ ap (λ z left. s.Less left z (set_at left)) same))
-    (record { grows = λ x n h. set_larger S 1 (s.Less x u.1 (set_at x)) (n + suc (length q)) (n + length ls) (omega arith) (one.grows x n h) })
+    subst (λ z. SumStep S z (length ls)) (sym (made ∙ ap (λ z left. s.Less (set_at left) left z) same))
+    (record { grows = λ x n h. set_larger S 1 (s.Less (set_at x) x u.1) (n + suc (length q)) (n + length ls) (omega arith) (one.grows x n h) })
 
 sums_held : (S : Pieces) → Knows S → (x : SetExpr) (fs : List Step) (n : ℕ) (ls : List Piece) → AreGood ls → SpellsEach (Spells S set_step) fs ls
     → HeldSet S 1 x n → HeldSet S 1 (fold step x fs) (n + length ls)
@@ -148,18 +148,18 @@ sum_held S know x ls good (v, is, (p, q, g, first, (rest, t))) =
 
 -- ---- choices
 
-pub if_as : (y x : Expr) (w v u t : SetExpr) (a b : ℕ) → AsExpr x y → AsSet v w → AsSet t u → AsSet (s.IfS x v t b) (s.IfS y w u a)
+pub if_as : (y x : Expr) (w v u t : SetExpr) (a b : ℕ) → AsExpr x y → AsSet v w → AsSet t u → AsSet (s.IfS b x v t) (s.IfS a y w u)
 if_as y x w v u t a b f g h =
-    layer.IfS_stripped y w u a ∙ ap (λ z. s.IfS z (stripped_set w) (stripped_set u) 0) f ∙ ap (λ z. s.IfS (stripped_expr x) z (stripped_set u) 0) g
-    ∙ ap (λ z. s.IfS (stripped_expr x) (stripped_set v) z 0) h ∙ sym (layer.IfS_stripped x v t b)
+    layer.IfS_stripped y w u a ∙ ap (λ z. s.IfS 0 z (stripped_set w) (stripped_set u)) f ∙ ap (λ z. s.IfS 0 (stripped_expr x) z (stripped_set u)) g
+    ∙ ap (λ z. s.IfS 0 (stripped_expr x) (stripped_set v) z) h ∙ sym (layer.IfS_stripped x v t b)
 
 pub match_as : (y x : Expr) (w v u t : SetExpr) (m l : Piece) (a b : ℕ) → AsExpr x y → AsSet v w → m.bytes ≡ l.bytes → AsSet t u
-    → AsSet (s.MatchS x v (named l) t b) (s.MatchS y w (named m) u a)
+    → AsSet (s.MatchS b x v (named l) t) (s.MatchS a y w (named m) u)
 match_as y x w v u t m l a b f g n h =
-    layer.MatchS_stripped y w (named m) u a ∙ ap (λ z. s.MatchS z (stripped_set w) (stripped_name (named m)) (stripped_set u) 0) f
-    ∙ ap (λ z. s.MatchS (stripped_expr x) z (stripped_name (named m)) (stripped_set u) 0) g
-    ∙ ap (λ z. s.MatchS (stripped_expr x) (stripped_set v) z (stripped_set u) 0) (name_as m l n)
-    ∙ ap (λ z. s.MatchS (stripped_expr x) (stripped_set v) (stripped_name (named l)) z 0) h ∙ sym (layer.MatchS_stripped x v (named l) t b)
+    layer.MatchS_stripped y w (named m) u a ∙ ap (λ z. s.MatchS 0 z (stripped_set w) (stripped_name (named m)) (stripped_set u)) f
+    ∙ ap (λ z. s.MatchS 0 (stripped_expr x) z (stripped_name (named m)) (stripped_set u)) g
+    ∙ ap (λ z. s.MatchS 0 (stripped_expr x) (stripped_set v) z (stripped_set u)) (name_as m l n)
+    ∙ ap (λ z. s.MatchS 0 (stripped_expr x) (stripped_set v) (stripped_name (named l)) z) h ∙ sym (layer.MatchS_stripped x v (named l) t b)
 
 pub set_rule_held : (S : Pieces) → Knows S → (x : SetExpr) (ls : List Piece) → AreGood ls → Spells S set x ls → HeldSet S 0 x (length ls)
 unfolding set if_set match_set
@@ -169,10 +169,10 @@ set_rule_held S know x ls good (inl (v, is, d)) =
     let one = know.set v.1.0 i.one i.good_one i.spells_one in
     let other = know.set v.1.1 i.other i.good_other i.spells_other in
     subst (λ z. HeldSet S 0 z (length ls)) (sym is)
-    (held_set S 0 (s.IfS v.0.1 v.1.0 v.1.1 v.0.0.at) (set_spelling (SetExpr-F.IfS (spelled_expr v.0.1) (spelled_set v.1.0) (spelled_set v.1.1) v.0.0.at)) (length ls)
+    (held_set S 0 (s.IfS v.0.0.at v.0.1 v.1.0 v.1.1) (set_spelling (SetExpr-F.IfS v.0.0.at (spelled_expr v.0.1) (spelled_set v.1.0) (spelled_set v.1.1))) (length ls)
     (layer.IfS_spelled v.0.1 v.1.0 v.1.1 v.0.0.at) (omega arith) (omega arith)
     (c.rewritten (choice_lexemes (spelled_expr v.0.1).marks (spelled_set v.1.0).marks (spelled_set v.1.1).marks) i.fewer
-    (moved (λ z. s.IfS z.0.1 z.1.0 z.1.1 z.0.0.at) (λ z r. if_as z.0.1 v.0.1 z.1.0 v.1.0 z.1.1 v.1.1 z.0.0.at v.0.0.at r.0.1 r.1.0 r.1.1)
+    (moved (λ z. s.IfS z.0.0.at z.0.1 z.1.0 z.1.1) (λ z r. if_as z.0.1 v.0.1 z.1.0 v.1.0 z.1.1 v.1.1 z.0.0.at v.0.0.at r.0.1 r.1.0 r.1.1)
     (λ z ks d. inl (z, refl, d)) (choice_c S (part Set) t.1 one.1 other.1))))
 set_rule_held S know x ls good (inr (inl (v, is, d))) =
     let i = case_parts S (part Set) v ls good d in
@@ -181,10 +181,10 @@ set_rule_held S know x ls good (inr (inl (v, is, d))) =
     let other = know.set v.1.1.1 i.other i.good_other i.spells_other in
     let x = named v.1.1.0 in
     subst (λ z. HeldSet S 0 z (length ls)) (sym is)
-    (held_set S 0 (s.MatchS v.0.1 v.1.0 x v.1.1.1 v.0.0.at) (set_spelling (SetExpr-F.MatchS (spelled_expr v.0.1) (spelled_set v.1.0) x (spelled_set v.1.1.1) v.0.0.at))
+    (held_set S 0 (s.MatchS v.0.0.at v.0.1 v.1.0 x v.1.1.1) (set_spelling (SetExpr-F.MatchS v.0.0.at (spelled_expr v.0.1) (spelled_set v.1.0) x (spelled_set v.1.1.1)))
     (length ls) (layer.MatchS_spelled v.0.1 v.1.0 x v.1.1.1 v.0.0.at) (omega arith) (omega arith)
     (c.rewritten (cases_lexemes (spelled_expr v.0.1).marks (spelled_set v.1.0).marks x.name (spelled_set v.1.1.1).marks) i.fewer
-    (moved (λ z. s.MatchS z.0.1 z.1.0 (named z.1.1.0) z.1.1.1 z.0.0.at)
+    (moved (λ z. s.MatchS z.0.0.at z.0.1 z.1.0 (named z.1.1.0) z.1.1.1)
     (λ z r. match_as z.0.1 v.0.1 z.1.0 v.1.0 z.1.1.1 v.1.1.1 z.1.1.0 v.1.1.0 z.0.0.at v.0.0.at r.0.1 r.1.0 r.1.1.0 r.1.1.1)
     (λ z ks d. inr (inl (z, refl, d))) (cases_c S (part Set) v.1.1.0 i.name i.admitted t.1 one.1 other.1))))
 set_rule_held S know x ls good (inr (inr h)) = set_looser S 0 1 x (length ls) (omega arith) (sum_held S know x ls good h)

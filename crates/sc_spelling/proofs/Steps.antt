@@ -42,13 +42,13 @@ lambda_c S f l safe admitted h = c.both (lower_token S l safe admitted) (behind_
 
 -- ---- Find
 
-pub find_as : (m l : Piece) (ys xs : List Filter) (a b : ℕ) → m.bytes ≡ l.bytes → Same AsFilter xs ys → AsSet (s.Find (named l) xs b) (s.Find (named m) ys a)
+pub find_as : (m l : Piece) (ys xs : List Filter) (a b : ℕ) → m.bytes ≡ l.bytes → Same AsFilter xs ys → AsSet (s.Find b (named l) xs) (s.Find a (named m) ys)
 find_as m l ys xs a b n r =
-    layer.Find_stripped (named m) ys a ∙ ap (λ z. s.Find z (map stripped_filter ys) 0) (name_as m l n)
-    ∙ ap (λ z. s.Find (stripped_name (named l)) z 0) (same_map stripped_filter xs ys r) ∙ sym (layer.Find_stripped (named l) xs b)
+    layer.Find_stripped (named m) ys a ∙ ap (λ z. s.Find 0 z (map stripped_filter ys)) (name_as m l n)
+    ∙ ap (λ z. s.Find 0 (stripped_name (named l)) z) (same_map stripped_filter xs ys r) ∙ sym (layer.Find_stripped (named l) xs b)
 
 find_lexemes : (l : Piece) (fs : List Filter)
-    → set_lexemes (s.Find (named l) fs l.at)
+    → set_lexemes (s.Find l.at (named l) fs)
     ≡ at k.Upper l.bytes ∷ at k.ColonColon (sign_of k.ColonColon) ∷ at k.Upper (codes "Find") ∷ at k.ParenOpen (sign_of k.ParenOpen)
     ∷ ((at k.BraceOpen (sign_of k.BraceOpen) ∷ (lexemes_of_marks (commas (map spelled_filter fs)) ++ at k.BraceClose (sign_of k.BraceClose) ∷ []))
     ++ at k.ParenClose (sign_of k.ParenClose) ∷ [])
@@ -65,13 +65,13 @@ pub record Found (S : Pieces) (f : G SetExpr) (x : SetExpr) (most : ℕ) : Type 
 
 find_of : (S : Pieces) (l : Piece) (fs : List Filter) (n : ℕ) → IsPart (lexeme l) → admits Upper l ≡ true
     → Canonical (Same AsFilter fs) (Spells S (listed filter_form)) (lexemes_of_marks (commas (map spelled_filter fs))) n
-    → Found S find (s.Find (named l) fs l.at) (n + 7)
+    → Found S find (s.Find l.at (named l) fs) (n + 7)
 unfolding find
 find_of S l fs n safe admitted h = record {
   rank = ap (λ z. z.rank) (layer.Find_spelled (named l) fs l.at);
   canon =
       c.rewritten (find_lexemes l fs) (omega arith)
-      (moved (λ z. s.Find (named z.0) z.1 z.0.at) (λ z r. find_as z.0 l z.1 fs z.0.at l.at r.0 r.1) (λ z ls d. (z, refl, d))
+      (moved (λ z. s.Find z.0.at (named z.0) z.1) (λ z r. find_as z.0 l z.1 fs z.0.at l.at r.0 r.1) (λ z ls d. (z, refl, d))
       (c.both (upper_token S l safe admitted)
       (behind_c S (Sign k.ColonColon) (behind (token (Word k.Upper (codes "Find"))) (parens (braces (listed filter_form)))) (colons_token S)
       (behind_c S (Word k.Upper (codes "Find")) (parens (braces (listed filter_form))) (upper_word S (codes "Find") refl refl refl)
@@ -96,7 +96,7 @@ find_c S know x ls good (v, is, (p, q, g, (ni, na), (u, uis, (a, b, g2, (ci, ca)
     let same : v.1 ≡ fs = uis ∙ wis ∙ yis ∙ i.spells.1 in
     let made = find_of S v.0 fs (length j.inner) (good_one p v.0 ni (good_front ls p q g good)) na
     (listed_c S filter_form AsFilter spelled_filter (filter_c S know) fs j.inner j.good j.spells) in
-    subst (λ z. Found S find z (length ls)) (sym (is ∙ ap (λ z. s.Find (named v.0) z v.0.at) same))
+    subst (λ z. Found S find z (length ls)) (sym (is ∙ ap (λ z. s.Find v.0.at (named v.0) z) same))
     (record { rank = made.rank; canon = c.rewritten refl (omega arith) made.canon })
 
 -- ---- steps
@@ -120,20 +120,20 @@ step_lexemes : (word x : List ℕ) (body : List Mark)
 step_lexemes word x body =
     ap (λ z. dot ∷ at k.Lower word ∷ at k.ParenOpen (sign_of k.ParenOpen) ∷ at k.Lower x ∷ at k.Arrow (sign_of k.Arrow) ∷ z) (lexemes_append body (mark.sign k.ParenClose ∷ []))
 
-pub map_as : (m l : Piece) (y x : Expr) → m.bytes ≡ l.bytes → AsExpr x y → AsStep (λ of. s.MapS of (named l) x (set_at of)) (λ of. s.MapS of (named m) y (set_at of))
+pub map_as : (m l : Piece) (y x : Expr) → m.bytes ≡ l.bytes → AsExpr x y → AsStep (λ of. s.MapS (set_at of) of (named l) x) (λ of. s.MapS (set_at of) of (named m) y)
 map_as m l y x n r t u h =
-    layer.MapS_stripped u (named m) y (set_at u) ∙ ap (λ z. s.MapS z (stripped_name (named m)) (stripped_expr y) 0) h
-    ∙ ap (λ z. s.MapS (stripped_set t) z (stripped_expr y) 0) (name_as m l n)
-    ∙ ap (λ z. s.MapS (stripped_set t) (stripped_name (named l)) z 0) r ∙ sym (layer.MapS_stripped t (named l) x (set_at t))
+    layer.MapS_stripped u (named m) y (set_at u) ∙ ap (λ z. s.MapS 0 z (stripped_name (named m)) (stripped_expr y)) h
+    ∙ ap (λ z. s.MapS 0 (stripped_set t) z (stripped_expr y)) (name_as m l n)
+    ∙ ap (λ z. s.MapS 0 (stripped_set t) (stripped_name (named l)) z) r ∙ sym (layer.MapS_stripped t (named l) x (set_at t))
 
-pub flat_as : (m l : Piece) (y x : SetExpr) → m.bytes ≡ l.bytes → AsSet x y → AsStep (λ of. s.FlatS of (named l) x (set_at of)) (λ of. s.FlatS of (named m) y (set_at of))
+pub flat_as : (m l : Piece) (y x : SetExpr) → m.bytes ≡ l.bytes → AsSet x y → AsStep (λ of. s.FlatS (set_at of) of (named l) x) (λ of. s.FlatS (set_at of) of (named m) y)
 flat_as m l y x n r t u h =
-    layer.FlatS_stripped u (named m) y (set_at u) ∙ ap (λ z. s.FlatS z (stripped_name (named m)) (stripped_set y) 0) h
-    ∙ ap (λ z. s.FlatS (stripped_set t) z (stripped_set y) 0) (name_as m l n)
-    ∙ ap (λ z. s.FlatS (stripped_set t) (stripped_name (named l)) z 0) r ∙ sym (layer.FlatS_stripped t (named l) x (set_at t))
+    layer.FlatS_stripped u (named m) y (set_at u) ∙ ap (λ z. s.FlatS 0 z (stripped_name (named m)) (stripped_set y)) h
+    ∙ ap (λ z. s.FlatS 0 (stripped_set t) z (stripped_set y)) (name_as m l n)
+    ∙ ap (λ z. s.FlatS 0 (stripped_set t) (stripped_name (named l)) z) r ∙ sym (layer.FlatS_stripped t (named l) x (set_at t))
 
 map_of : (S : Pieces) (l : Piece) (x : Expr) (n : ℕ) → IsPart (lexeme l) → admits Lower l ≡ true → Deep S x n
-    → OneStep S map_step (λ of. s.MapS of (named l) x (set_at of)) (n + 5)
+    → OneStep S map_step (λ of. s.MapS (set_at of) of (named l) x) (n + 5)
 unfolding map_step
 map_of S l x n safe admitted h = record {
   marks = at k.Lower (codes "map") ∷ at k.ParenOpen (sign_of k.ParenOpen) ∷ at k.Lower l.bytes ∷ at k.Arrow (sign_of k.Arrow) ∷ (expr_lexemes x ++ at k.ParenClose (sign_of k.ParenClose) ∷ []);
@@ -143,13 +143,13 @@ map_of S l x n safe admitted h = record {
   rank = λ t. ap (λ z. z.rank) (layer.MapS_spelled t (named l) x (set_at t));
   canon =
       c.rewritten refl (omega arith)
-      (moved (λ z of. s.MapS of (named z.0) z.1 (set_at of)) (λ z r. map_as z.0 l z.1 x r.0 r.1) (λ z ls d. (z, refl, d))
+      (moved (λ z of. s.MapS (set_at of) of (named z.0) z.1) (λ z r. map_as z.0 l z.1 x r.0 r.1) (λ z ls d. (z, refl, d))
       (behind_c S (Word k.Lower (codes "map")) (parens (lambda (part Expression))) (lower_word S (codes "map") refl refl refl)
       (parens_c S (lambda (part Expression)) (lambda_c S (part Expression) l safe admitted h))));
 }
 
 flat_of : (S : Pieces) (l : Piece) (x : SetExpr) (n : ℕ) → IsPart (lexeme l) → admits Lower l ≡ true → Canonical (AsSet x) (S Set) (set_lexemes x) n
-    → OneStep S flat_step (λ of. s.FlatS of (named l) x (set_at of)) (n + 5)
+    → OneStep S flat_step (λ of. s.FlatS (set_at of) of (named l) x) (n + 5)
 unfolding flat_step
 flat_of S l x n safe admitted h = record {
   marks = at k.Lower (codes "flat_map") ∷ at k.ParenOpen (sign_of k.ParenOpen) ∷ at k.Lower l.bytes ∷ at k.Arrow (sign_of k.Arrow) ∷ (set_lexemes x ++ at k.ParenClose (sign_of k.ParenClose) ∷ []);
@@ -159,7 +159,7 @@ flat_of S l x n safe admitted h = record {
   rank = λ t. ap (λ z. z.rank) (layer.FlatS_spelled t (named l) x (set_at t));
   canon =
       c.rewritten refl (omega arith)
-      (moved (λ z of. s.FlatS of (named z.0) z.1 (set_at of)) (λ z r. flat_as z.0 l z.1 x r.0 r.1) (λ z ls d. (z, refl, d))
+      (moved (λ z of. s.FlatS (set_at of) of (named z.0) z.1) (λ z r. flat_as z.0 l z.1 x r.0 r.1) (λ z ls d. (z, refl, d))
       (behind_c S (Word k.Lower (codes "flat_map")) (parens (lambda (part Set))) (lower_word S (codes "flat_map") refl refl refl)
       (parens_c S (lambda (part Set)) (lambda_c S (part Set) l safe admitted h))));
 }

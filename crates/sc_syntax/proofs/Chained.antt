@@ -26,7 +26,7 @@ step_chain levels = record {
 abbrev pub field_chain : ℕ → ℕ → Chain Expr Piece (SetExpr → SetExpr) SetExpr
 field_chain levels at = record {
   op = get;
-  finish = λ x make. make (s.Path x at);
+  finish = λ x make. make (s.Path at x);
   behind = Sign k.Dot;
   wants = Lower ∷ [];
   element = reading levels (token Lower);

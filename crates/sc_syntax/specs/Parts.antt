@@ -23,10 +23,10 @@ field_form = behind (sign k.Dot) (token Lower)
 
 -- the two kinds of comparison
 abbrev pub compare_form : G (Expr → Expr)
-compare_form = mapped (λ v left. e.Cmp v.0 left v.1 (expr_at left)) (cmp_op ⨾ unary)
+compare_form = mapped (λ v left. e.Cmp (expr_at left) v.0 left v.1) (cmp_op ⨾ unary)
 
 abbrev pub member_form : G (Expr → Expr)
-member_form = mapped (λ set left. e.Member left set (expr_at left)) (behind (keyword (codes "in")) container)
+member_form = mapped (λ set left. e.Member (expr_at left) left set) (behind (keyword (codes "in")) container)
 
 -- what is behind `&&` and `||`, and what is made of both sides
 abbrev pub and_form : G Expr
@@ -36,10 +36,10 @@ abbrev pub or_form : G Expr
 or_form = behind (sign k.OrOr) conjunction
 
 abbrev pub and_of : Expr → Expr → Expr
-and_of left right = e.And left right (expr_at left)
+and_of left right = e.And (expr_at left) left right
 
 abbrev pub or_of : Expr → Expr → Expr
-or_of left right = e.Or left right (expr_at left)
+or_of left right = e.Or (expr_at left) left right
 
 -- ---- lists
 
@@ -58,10 +58,10 @@ abbrev pub paren_form : G SetExpr
 paren_form = mapped (λ v. placed_set v.0.at v.1.0) (sign k.ParenOpen ⨾ part Set ⨾ sign k.ParenClose)
 
 abbrev pub sum_form : G (SetExpr → SetExpr)
-sum_form = mapped (λ right left. s.Sum left right (set_at left)) (behind (sign k.Plus) set_term)
+sum_form = mapped (λ right left. s.Sum (set_at left) left right) (behind (sign k.Plus) set_term)
 
 abbrev pub less_form : G (SetExpr → SetExpr)
-less_form = mapped (λ right left. s.Less left right (set_at left)) (behind (sign k.Minus) set_term)
+less_form = mapped (λ right left. s.Less (set_at left) left right) (behind (sign k.Minus) set_term)
 
 -- after as many steps as there may be
 abbrev pub last_step : ℕ → SetExpr → Reader SetExpr

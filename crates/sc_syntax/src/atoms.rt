@@ -42,7 +42,7 @@ impl<
         if cursor.sees_lower() {
             let word = cursor.lower()?;
             let name = word.named(self.alloc)?;
-            return Ok(Boxed::new(self.alloc, Expr::Var(name, word.at()))?);
+            return Ok(Boxed::new(self.alloc, Expr::Var(word.at(), name))?);
         }
         let open = cursor.sign(TokenKind::ParenOpen)?;
         let inner = self.inner_expr(cursor)?;
@@ -68,9 +68,9 @@ impl<
             (reading self.now.levels (token Lower) cursor.old)) result cursor.new }
     {
         let word = cursor.lower()?;
-        let field = word.named(self.alloc)?;
+        let field = word.boxed_name(self.alloc)?;
         let at = of.get().at();
-        Ok(Boxed::new(self.alloc, Expr::Get(of, field, at))?)
+        Ok(Boxed::new(self.alloc, Expr::Get(at, of, field))?)
     }
 
     /// A field of that, and so on.
@@ -109,10 +109,10 @@ impl<
     {
         if cursor.sees_word(TokenKind::Lower, b"true") {
             let word = cursor.word(TokenKind::Lower, b"true")?;
-            return Ok(Boxed::new(self.alloc, Expr::Flag(true, word.at()))?);
+            return Ok(Boxed::new(self.alloc, Expr::Flag(word.at(), true))?);
         }
         let word = cursor.word(TokenKind::Lower, b"false")?;
-        Ok(Boxed::new(self.alloc, Expr::Flag(false, word.at()))?)
+        Ok(Boxed::new(self.alloc, Expr::Flag(word.at(), false))?)
     }
 
     /// A number, with a minus before it or none.
@@ -122,12 +122,12 @@ impl<
     {
         if cursor.sees_plain() {
             let token = cursor.plain()?;
-            let number = Expr::Num(token.number() as i64, token.at());
+            let number = Expr::Num(token.at(), token.number() as i64);
             return Ok(Boxed::new(self.alloc, number)?);
         }
         let sign = cursor.sign(TokenKind::Minus)?;
         let token = cursor.negated()?;
-        let number = Expr::Num(minus(token.number()), sign.at());
+        let number = Expr::Num(sign.at(), minus(token.number()));
         Ok(Boxed::new(self.alloc, number)?)
     }
 
@@ -137,8 +137,8 @@ impl<
         ensures { Reads (reading self.now.levels form.literal cursor.old) result cursor.new }
     {
         let token = cursor.literal()?;
-        let text = token.text(self.alloc)?;
-        Ok(Boxed::new(self.alloc, Expr::Str(text, token.at()))?)
+        let text = Boxed::new(self.alloc, token.text(self.alloc)?)?;
+        Ok(Boxed::new(self.alloc, Expr::Str(token.at(), text))?)
     }
 
     /// `none`, or `some` of an expression.
@@ -157,7 +157,7 @@ impl<
         cursor.sign(TokenKind::ParenOpen)?;
         let inner = self.inner_expr(cursor)?;
         cursor.sign(TokenKind::ParenClose)?;
-        Ok(Boxed::new(self.alloc, Expr::SomeLit(inner, word.at()))?)
+        Ok(Boxed::new(self.alloc, Expr::SomeLit(word.at(), inner))?)
     }
 
     /// An expression that no operator goes through.

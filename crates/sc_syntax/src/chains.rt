@@ -3,6 +3,7 @@
 ghost use Rattle.std.specs.Prelude.{◌≡◌, Err, List};
 ghost use Rattle.std.specs.List.{fold};
 ghost use Rattle.sc_tree.specs.ExprGrammar as form;
+ghost use Rattle.sc_tree.specs.Forms.{Lower, token};
 ghost use Rattle.sc_ast.specs.Pieces.{Piece};
 ghost use Rattle.sc_forms.specs.Reading.{Got, made};
 ghost use Rattle.sc_syntax.specs.Nests.{Nests};
@@ -103,19 +104,14 @@ impl<
 
     /// What may follow as many fields as there may be.
     #[tactic(auto, unfolding(sc_forms::specs::Reading::read))]
-    fn last_field(
-        &self,
-        cursor: &mut Cursor<'_>,
-        of: Boxed<Expr>,
-        at: u32,
-    ) -> Result<Boxed<SetExpr>, Stop>
+    fn last_field(&self, cursor: &mut Cursor<'_>, of: Expr, at: u32) -> Result<Boxed<SetExpr>, Stop>
         requires { Nests self.now.levels
             (E.pre self.now.expr) (E.post self.now.expr) (S.pre self.now.set)
             (S.post self.now.set) }
         ensures { Reads
-            (last_field self.now.levels (SetExpr.Path of at) cursor.old) result cursor.new }
+            (last_field self.now.levels (SetExpr.Path at of) cursor.old) result cursor.new }
     {
-        let set = Boxed::new(self.alloc, SetExpr::Path(of.into_inner(), at))?;
+        let set = Boxed::new(self.alloc, SetExpr::Path(at, of))?;
         if !cursor.take(TokenKind::Dot) {
             return Ok(set);
         }
@@ -126,44 +122,48 @@ impl<
     }
 
     /// The set that an expression names.
-    fn path_set(&self, of: Boxed<Expr>, at: u32) -> Result<Boxed<SetExpr>, Stop>
-        ensures { (rest : List Piece) → Reads (Got (SetExpr.Path of at) rest) result rest }
+    fn path_set(&self, of: Expr, at: u32) -> Result<Boxed<SetExpr>, Stop>
+        ensures { (rest : List Piece) → Reads (Got (SetExpr.Path at of) rest) result rest }
     {
-        Ok(Boxed::new(self.alloc, SetExpr::Path(of.into_inner(), at))?)
+        Ok(Boxed::new(self.alloc, SetExpr::Path(at, of))?)
     }
 
     /// The steps after the fields of a path.
     #[tactic(auto, unfolding(sc_forms::specs::Reading::read))]
-    fn path_end(
-        &self,
-        cursor: &mut Cursor<'_>,
-        of: Boxed<Expr>,
-        at: u32,
-    ) -> Result<Boxed<SetExpr>, Stop>
+    fn path_end(&self, cursor: &mut Cursor<'_>, of: Expr, at: u32) -> Result<Boxed<SetExpr>, Stop>
         requires { Nests self.now.levels
             (E.pre self.now.expr) (E.post self.now.expr) (S.pre self.now.set)
             (S.post self.now.set) }
         ensures { Reads
-            (made (form.step (SetExpr.Path of at))
+            (made (form.step (SetExpr.Path at of))
             (reading self.now.levels form.path_steps cursor.old)) result cursor.new }
     {
-        let set = Boxed::new(self.alloc, SetExpr::Path(of.into_inner(), at))?;
+        let set = Boxed::new(self.alloc, SetExpr::Path(at, of))?;
         self.path_steps(cursor, set)
+    }
+
+    /// A field of an expression, behind a dot that was read. Neither is in a box.
+    #[tactic(auto, unfolding(sc_forms::specs::Reading::read))]
+    fn next_field(&self, cursor: &mut Cursor<'_>, of: Expr) -> Result<Expr, Stop>
+        ensures { Reads
+            (made (form.get of)
+            (reading self.now.levels (token Lower) cursor.old)) result cursor.new }
+    {
+        let word = cursor.lower()?;
+        let field = word.boxed_name(self.alloc)?;
+        let at = of.at();
+        let of = Boxed::new(self.alloc, of)?;
+        Ok(Expr::Get(at, of, field))
     }
 
     /// The fields of a variable, and the steps after them.
     #[tactic(auto, unfolding(sc_forms::specs::Reading::read))]
-    fn chain(
-        &self,
-        cursor: &mut Cursor<'_>,
-        of: Boxed<Expr>,
-        at: u32,
-    ) -> Result<Boxed<SetExpr>, Stop>
+    fn chain(&self, cursor: &mut Cursor<'_>, of: Expr, at: u32) -> Result<Boxed<SetExpr>, Stop>
         requires { Nests self.now.levels
             (E.pre self.now.expr) (E.post self.now.expr) (S.pre self.now.set)
             (S.post self.now.set) }
         ensures { Reads
-            (made (λ v. v.1 (SetExpr.Path (fold form.get of v.0) at))
+            (made (λ v. v.1 (SetExpr.Path at (fold form.get of v.0)))
             (reading self.now.levels chain_form cursor.old)) result cursor.new }
     {
         let mut of = of;
@@ -174,7 +174,7 @@ impl<
             if !cursor.sees_lower() {
                 return self.path_end(cursor, of, at);
             }
-            of = self.get_field(cursor, of)?;
+            of = self.next_field(cursor, of)?;
         }
         self.last_field(cursor, of, at)
     }
@@ -190,7 +190,6 @@ impl<
         let word = cursor.lower()?;
         let name = word.named(self.alloc)?;
         let at = word.at();
-        let of = Boxed::new(self.alloc, Expr::Var(name, at))?;
-        self.chain(cursor, of, at)
+        self.chain(cursor, Expr::Var(at, name), at)
     }
 }

@@ -36,7 +36,7 @@ impl<
         }
         let not = cursor.sign(TokenKind::Not)?;
         let inner = self.atom(cursor)?;
-        Ok(Boxed::new(self.alloc, Expr::Not(inner, not.at()))?)
+        Ok(Boxed::new(self.alloc, Expr::Not(not.at(), inner))?)
     }
 
     /// The sign of a comparison.
@@ -79,7 +79,7 @@ impl<
         if cursor.begins_path() {
             let path = self.path(cursor)?;
             let at = path.get().at();
-            let set = SetExpr::Path(path.into_inner(), at);
+            let set = SetExpr::Path(at, path.into_inner());
             return Ok(Boxed::new(self.alloc, set)?);
         }
         cursor.sign(TokenKind::BraceOpen)?;
@@ -101,7 +101,7 @@ impl<
         let op = self.cmp_op(cursor)?;
         let right = self.unary(cursor)?;
         let at = left.get().at();
-        Ok(Boxed::new(self.alloc, Expr::Cmp(op, left, right, at))?)
+        Ok(Boxed::new(self.alloc, Expr::Cmp(at, op, left, right))?)
     }
 
     /// The set that the expression before it is in.
@@ -116,7 +116,7 @@ impl<
         cursor.word(TokenKind::Lower, b"in")?;
         let set = self.container(cursor)?;
         let at = of.get().at();
-        Ok(Boxed::new(self.alloc, Expr::Member(of, set, at))?)
+        Ok(Boxed::new(self.alloc, Expr::Member(at, of, set))?)
     }
 
     /// What follows the left side of a comparison, if one follows.
@@ -162,7 +162,7 @@ impl<
         cursor.sign(TokenKind::AndAnd)?;
         let right = self.compared(cursor)?;
         let at = left.get().at();
-        Ok(Boxed::new(self.alloc, Expr::And(left, right, at))?)
+        Ok(Boxed::new(self.alloc, Expr::And(at, left, right))?)
     }
 
     /// The expression before it and as many more as follow.
@@ -209,7 +209,7 @@ impl<
         cursor.sign(TokenKind::OrOr)?;
         let right = self.conjunction(cursor)?;
         let at = left.get().at();
-        Ok(Boxed::new(self.alloc, Expr::Or(left, right, at))?)
+        Ok(Boxed::new(self.alloc, Expr::Or(at, left, right))?)
     }
 
     /// The expression before it and as many more as follow.
@@ -284,7 +284,7 @@ impl<
     {
         let (word, test) = self.condition(cursor)?;
         let (one, other) = self.branches(cursor)?;
-        let choice = Expr::IfE(test, one, other, word.at());
+        let choice = Expr::IfE(word.at(), test, one, other);
         Ok(Boxed::new(self.alloc, choice)?)
     }
 
@@ -347,7 +347,8 @@ impl<
         let none = self.none_branch(cursor)?;
         let (variable, some) = self.some_branch(cursor)?;
         let name = variable.named(self.alloc)?;
-        let choice = Expr::MatchE(of, none, name, some, word.at());
+        let some = Boxed::new(self.alloc, (name, some.into_inner()))?;
+        let choice = Expr::MatchE(word.at(), of, none, some);
         Ok(Boxed::new(self.alloc, choice)?)
     }
 

@@ -87,7 +87,7 @@ impl<
             (behind_comma form.item_form)) cursor.old)) result cursor.new }
     {
         let first = self.item(cursor)?;
-        let mut found = Items::new(self.alloc);
+        let mut found = Items::from_vec(Vec::with_capacity(self.alloc, 1)?);
         found.push(first)?;
         self.more_items(cursor, found)
     }
@@ -118,7 +118,7 @@ impl<
         let open = cursor.sign(TokenKind::BracketOpen)?;
         let items = self.items(cursor)?;
         cursor.sign(TokenKind::BracketClose)?;
-        Ok(Boxed::new(self.alloc, SetExpr::List(items, open.at()))?)
+        Ok(Boxed::new(self.alloc, SetExpr::List(open.at(), items))?)
     }
 
     /// The sign of a filter: a colon, `has` or a comparison.
@@ -216,7 +216,7 @@ impl<
             (behind_comma form.filter_form)) cursor.old)) result cursor.new }
     {
         let first = self.filter(cursor)?;
-        let mut found = Items::new(self.alloc);
+        let mut found = Items::from_vec(Vec::with_capacity(self.alloc, 1)?);
         found.push(first)?;
         self.more_filters(cursor, found)
     }
@@ -248,8 +248,8 @@ impl<
         cursor.sign(TokenKind::ColonColon)?;
         cursor.word(TokenKind::Upper, b"Find")?;
         let filters = self.find_filters(cursor)?;
-        let model = word.named(self.alloc)?;
-        Ok(Boxed::new(self.alloc, SetExpr::Find(model, filters, word.at()))?)
+        let model = word.boxed_name(self.alloc)?;
+        Ok(Boxed::new(self.alloc, SetExpr::Find(word.at(), model, filters))?)
     }
 
     /// The filters of `Find`, in their parentheses and braces.

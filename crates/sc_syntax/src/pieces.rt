@@ -13,6 +13,7 @@ ghost use Rattle.sc_syntax.specs.Pieces.{IsTokenIn, IsWordKind};
 use sc_ast::{Name, Txt};
 use sc_lexer::{Token, TokenKind, bytes_of, number_of, text_of};
 use sc_tree::Named;
+use sqlite_items::Boxed;
 use std::alloc::{AllocError, Global};
 use std::marker::Model;
 
@@ -128,10 +129,15 @@ impl<'a> Word<'a> {
     pub fn named(&self, alloc: Global) -> Result<Named, AllocError>
         ensures { IfOk result (λ name. name ≡ named self.now) }
     {
-        let bytes = Vec::from_slice(alloc, self.bytes)?;
-        Ok(Named {
-            name: Name::of(bytes),
-            at: self.at,
-        })
+        let name = Name::of(alloc, self.bytes)?;
+        Ok(Named { name, at: self.at })
+    }
+
+    /// The same, in a box.
+    pub fn boxed_name(&self, alloc: Global) -> Result<Boxed<Named>, AllocError>
+        ensures { IfOk result (λ name. name ≡ named self.now) }
+    {
+        let name = self.named(alloc)?;
+        Boxed::new(alloc, name)
     }
 }

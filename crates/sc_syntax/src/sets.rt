@@ -74,10 +74,9 @@ impl<
     {
         cursor.word(TokenKind::Lower, b"map")?;
         let (word, each) = self.lambda_expr(cursor)?;
-        let name = word.named(self.alloc)?;
+        let name = word.boxed_name(self.alloc)?;
         let at = of.get().at();
-        let set = SetExpr::MapS(of, name, each.into_inner(), at);
-        Ok(Boxed::new(self.alloc, set)?)
+        Ok(Boxed::new(self.alloc, SetExpr::MapS(at, of, name, each))?)
     }
 
     /// All that a set has at each element of the set before it.
@@ -96,9 +95,9 @@ impl<
     {
         cursor.word(TokenKind::Lower, b"flat_map")?;
         let (word, each) = self.lambda_set(cursor)?;
-        let name = word.named(self.alloc)?;
+        let name = word.boxed_name(self.alloc)?;
         let at = of.get().at();
-        Ok(Boxed::new(self.alloc, SetExpr::FlatS(of, name, each, at))?)
+        Ok(Boxed::new(self.alloc, SetExpr::FlatS(at, of, name, each))?)
     }
 
     /// The set before it and one more.
@@ -117,7 +116,7 @@ impl<
         cursor.sign(TokenKind::Plus)?;
         let right = self.set_term(cursor)?;
         let at = left.get().at();
-        Ok(Boxed::new(self.alloc, SetExpr::Sum(left, right, at))?)
+        Ok(Boxed::new(self.alloc, SetExpr::Sum(at, left, right))?)
     }
 
     /// The set before it without one more.
@@ -136,7 +135,7 @@ impl<
         cursor.sign(TokenKind::Minus)?;
         let right = self.set_term(cursor)?;
         let at = left.get().at();
-        Ok(Boxed::new(self.alloc, SetExpr::Less(left, right, at))?)
+        Ok(Boxed::new(self.alloc, SetExpr::Less(at, left, right))?)
     }
 
     /// What is added to a set or taken away.
@@ -259,7 +258,7 @@ impl<
     {
         let (word, test) = self.condition(cursor)?;
         let (one, other) = self.set_branches(cursor)?;
-        let choice = SetExpr::IfS(test.into_inner(), one, other, word.at());
+        let choice = SetExpr::IfS(word.at(), test, one, other);
         Ok(Boxed::new(self.alloc, choice)?)
     }
 
@@ -305,8 +304,8 @@ impl<
         let (word, of) = self.scrutinee(cursor)?;
         let none = self.none_set(cursor)?;
         let (variable, some) = self.some_set(cursor)?;
-        let name = variable.named(self.alloc)?;
-        let choice = SetExpr::MatchS(of.into_inner(), none, name, some, word.at());
+        let name = variable.boxed_name(self.alloc)?;
+        let choice = SetExpr::MatchS(word.at(), of, none, name, some);
         Ok(Boxed::new(self.alloc, choice)?)
     }
 

@@ -4,11 +4,12 @@ use Rattle.sc_lexer.specs.declared.token.TokenKind.TheVariants as k
 use Rattle.sc_ast.specs.Pieces.{Piece}
 use Rattle.sc_tree.specs.declared.commands.Command.{Command}
 use Rattle.sc_tree.specs.declared.commands.Command.TheVariants as command
+use Rattle.sc_tree.specs.declared.models.FieldDef.{FieldDef}
 use Rattle.sc_tree.specs.declared.named.Named.{Named}
 use Rattle.sc_tree.specs.declared.policies.Policy.{Policy}
 use Rattle.sc_tree.specs.Forms.{Upper, either, mapped, nothing, token}
 use Rattle.sc_tree.specs.ExprGrammar.{G, ◌⨾◌, behind, named, parens, sign, type_word}
-use Rattle.sc_tree.specs.Grammar.{add_field, model_form, remove_field, right, update_field, update_model, weaken_field, weaken_model}
+use Rattle.sc_tree.specs.Grammar.{add_field, fields_form, model_form, remove_field, right, update_field, update_model, weaken_field, weaken_model}
 
 -- the first of two rights, and maybe the second; and the second alone
 abbrev pub first_and_more : List ℕ → List ℕ → G (Option Policy × Option Policy)
@@ -21,7 +22,11 @@ second_alone two = mapped (λ p. (None, Some p)) (right two)
 abbrev pub word_with_name : List ℕ → G (Named × ℕ)
 word_with_name word = mapped (λ v. (named v.1, v.0.at)) (type_word word ⨾ parens (token Upper))
 
--- what stands behind the name of a model
+-- what stands behind the name of a model that is given whole
+abbrev pub model_body : G (Policy × (Policy × List FieldDef))
+model_body = behind (sign k.BraceOpen) (right (codes "create") ⨾ behind (sign k.Comma) (right (codes "delete")) ⨾ fields_form)
+
+-- what stands behind the name of a model that a command is about
 abbrev pub of_model : G (Piece → Command)
 of_model = either add_field (either remove_field (either update_field (either weaken_field (either update_model weaken_model))))
 

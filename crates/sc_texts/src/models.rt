@@ -7,6 +7,7 @@ ghost use Rattle.sc_tree.specs.Forms.{Sign, first};
 ghost use Rattle.sc_tree.specs.Texts.{first_of};
 ghost use Rattle.sc_forms.specs.Reading.{made, one, starts};
 ghost use Rattle.sc_syntax.specs.Reads.{Reads, reading};
+ghost use Rattle.sc_texts.specs.Parts.{model_body};
 ghost use Rattle.sc_texts.specs.Turns.{Turns, passed};
 ghost use Rattle.sc_texts.specs.Items.{fields_from, models_from, statics_from};
 
@@ -116,6 +117,35 @@ fn head(cursor: &mut Cursor<'_>) -> Result<(bool, u32), Stop>
     Ok((false, word.at()))
 }
 
+/// What was read, and the fields behind it. What was read is dropped here where there are none.
+fn with_fields<T: Drop>(
+    alloc: Global,
+    cursor: &mut Cursor<'_>,
+    read: T,
+) -> Result<(T, Items<FieldDef>), Stop>
+    ensures { Reads (made (λ fields. (read, fields))
+        (reading most_levels form.fields_form cursor.old)) result cursor.new }
+{
+    let fields = fields(alloc, cursor)?;
+    Ok((read, fields))
+}
+
+/// The rights on a model and its fields.
+#[tactic(auto, unfolding(sc_forms::specs::Reading::read))]
+fn model_body(
+    alloc: Global,
+    cursor: &mut Cursor<'_>,
+) -> Result<(Policy, (Policy, Items<FieldDef>)), Stop>
+    ensures { Reads (reading most_levels model_body cursor.old) result cursor.new }
+{
+    cursor.sign(TokenKind::BraceOpen)?;
+    let create = right(alloc, cursor, b"create")?;
+    cursor.sign(TokenKind::Comma)?;
+    let delete = right(alloc, cursor, b"delete")?;
+    let ((create, delete), fields) = with_fields(alloc, cursor, (create, delete))?;
+    Ok((create, (delete, fields)))
+}
+
 /// A model.
 #[tactic(auto, unfolding(sc_forms::specs::Reading::read, sc_tree::specs::Grammar::model_form))]
 pub fn model(alloc: Global, cursor: &mut Cursor<'_>) -> Result<ModelDef, Stop>
@@ -123,11 +153,7 @@ pub fn model(alloc: Global, cursor: &mut Cursor<'_>) -> Result<ModelDef, Stop>
 {
     let (principal, at) = head(cursor)?;
     let name = cursor.upper()?.named(alloc)?;
-    cursor.sign(TokenKind::BraceOpen)?;
-    let create = right(alloc, cursor, b"create")?;
-    cursor.sign(TokenKind::Comma)?;
-    let delete = right(alloc, cursor, b"delete")?;
-    let fields = fields(alloc, cursor)?;
+    let (create, (delete, fields)) = model_body(alloc, cursor)?;
     Ok(ModelDef {
         principal,
         name,

@@ -1,5 +1,7 @@
 //! Commands that begin with the name of a model.
 
+ghost use Rattle.std.specs.Prelude.{◌≡◌, IfOk};
+ghost use Rattle.sc_tree.specs.ExprGrammar.{named};
 ghost use Rattle.sc_tree.specs.Grammar as form;
 ghost use Rattle.sc_tree.specs.Grammar.{most_levels};
 ghost use Rattle.sc_forms.specs.Reading.{made};
@@ -7,13 +9,54 @@ ghost use Rattle.sc_syntax.specs.Parts.{applied};
 ghost use Rattle.sc_syntax.specs.Reads.{Reads, reading};
 ghost use Rattle.sc_texts.specs.Parts.{of_model};
 
-use crate::added::added;
+use crate::added::{Added, added};
 use crate::closed::closed;
 use crate::rights::{field_right_list, model_right_list, reasoned};
 use sc_lexer::TokenKind;
 use sc_syntax::{Cursor, Stop, Word};
-use sc_tree::{Command, FieldDef};
-use std::alloc::Global;
+use sc_tree::{Command, FieldDef, Named};
+use std::alloc::{AllocError, Global};
+
+/// Three names, and what was read, which is dropped here where memory is wanting.
+fn with_names<T: Drop>(
+    alloc: Global,
+    model: &Word<'_>,
+    field: &Word<'_>,
+    record: &Word<'_>,
+    read: T,
+) -> Result<((Named, Named, Named), T), AllocError>
+    ensures { IfOk result (λ r. (r.0.0 ≡ named model.now) × (r.0.1 ≡ named field.now)
+        × (r.0.2 ≡ named record.now) × (r.1 ≡ read)) }
+{
+    let model = model.named(alloc)?;
+    let field = field.named(alloc)?;
+    let record = record.named(alloc)?;
+    Ok(((model, field, record), read))
+}
+
+/// The command that adds such a field to this model.
+fn field_added(
+    alloc: Global,
+    model: &Word<'_>,
+    field: &Word<'_>,
+    added: Added<'_>,
+) -> Result<Command, AllocError>
+    ensures { IfOk result (λ command. command ≡ Command.AddField (named model.now)
+        (form.field_of field.now added.entry.0.0 (added.entry.0.1, added.entry.0.2))
+        (named added.entry.1) added.entry.2 model.now.at) }
+{
+    let (rights, record, init) = added;
+    let (names, read) = with_names(alloc, model, field, &record, (rights, init))?;
+    let (of, name, record) = names;
+    let ((ty, read, write), init) = read;
+    let field = FieldDef {
+        name,
+        ty,
+        read,
+        write,
+    };
+    Ok(Command::AddField(of, field, record, init, model.at()))
+}
 
 /// `AddField` of this model.
 #[tactic(auto, unfolding(sc_forms::specs::Reading::read, sc_tree::specs::Grammar::add_field))]
@@ -21,20 +64,13 @@ fn add_field(alloc: Global, cursor: &mut Cursor<'_>, model: &Word<'_>) -> Result
     ensures { Reads (made (applied model.now)
         (reading most_levels form.add_field cursor.old)) result cursor.new }
 {
-    let of = model.named(alloc)?;
     cursor.word(TokenKind::Upper, b"AddField")?;
     cursor.sign(TokenKind::ParenOpen)?;
-    let name = cursor.lower()?.named(alloc)?;
+    let field = cursor.lower()?;
     cursor.sign(TokenKind::Colon)?;
-    let ((ty, read, write), record, init) = added(alloc, cursor)?;
-    cursor.sign(TokenKind::ParenClose)?;
-    let field = FieldDef {
-        name,
-        ty,
-        read,
-        write,
-    };
-    Ok(Command::AddField(of, field, record.named(alloc)?, init, model.at()))
+    let added = added(alloc, cursor)?;
+    let added = closed(cursor, TokenKind::ParenClose, added)?;
+    Ok(field_added(alloc, model, &field, added)?)
 }
 
 /// `RemoveField` of this model.

@@ -69,11 +69,11 @@ named l = record { name = l.bytes; at = l.at }
 -- ---- expressions
 
 abbrev pub var_of : Piece → Expr
-var_of l = e.Var (named l) l.at
+var_of l = e.Var l.at (named l)
 
 -- a field of an expression
 abbrev pub get : Expr → Piece → Expr
-get x field = e.Get x (named field) (expr_at x)
+get x field = e.Get (expr_at x) x (named field)
 
 unfoldable pub path_root : G Expr
 path_root = either (mapped var_of (token Lower)) (mapped (λ v. placed_expr v.0.at v.1.0) (sign k.ParenOpen ⨾ part Expression ⨾ sign k.ParenClose))
@@ -82,7 +82,7 @@ unfoldable pub path : G Expr
 path = mapped (λ v. fold get v.0 v.1) (path_root ⨾ each AnyNumber (behind (sign k.Dot) (token Lower)))
 
 unfoldable pub flag : G Expr
-flag = either (mapped (λ l. e.Flag true l.at) (keyword (codes "true"))) (mapped (λ l. e.Flag false l.at) (keyword (codes "false")))
+flag = either (mapped (λ l. e.Flag l.at true) (keyword (codes "true"))) (mapped (λ l. e.Flag l.at false) (keyword (codes "false")))
 
 -- minus this number, which is not 0
 abbrev pub minus : ℕ → ℤ
@@ -90,22 +90,22 @@ minus n = negsuc (n - 1)
 
 unfoldable pub number : G Expr
 number =
-    either (mapped (λ l. e.Num (pos (digits_value 10 l.bytes)) l.at) (token Plain))
-    (mapped (λ v. e.Num (minus (digits_value 10 v.1.bytes)) v.0.at) (sign k.Minus ⨾ token Negated))
+    either (mapped (λ l. e.Num l.at (pos (digits_value 10 l.bytes))) (token Plain))
+    (mapped (λ v. e.Num v.0.at (minus (digits_value 10 v.1.bytes))) (sign k.Minus ⨾ token Negated))
 
 unfoldable pub literal : G Expr
-literal = mapped (λ l. e.Str (literal_value l.bytes) l.at) (token Literal)
+literal = mapped (λ l. e.Str l.at (literal_value l.bytes)) (token Literal)
 
 unfoldable pub option : G Expr
 option =
     either (mapped (λ l. e.NoneLit l.at) (keyword (codes "none")))
-    (mapped (λ v. e.SomeLit v.1 v.0.at) (keyword (codes "some") ⨾ parens (part Expression)))
+    (mapped (λ v. e.SomeLit v.0.at v.1) (keyword (codes "some") ⨾ parens (part Expression)))
 
 unfoldable pub atom : G Expr
 atom = either flag (either number (either literal (either option path)))
 
 unfoldable pub unary : G Expr
-unary = either (mapped (λ v. e.Not v.1 v.0.at) (sign k.Not ⨾ atom)) atom
+unary = either (mapped (λ v. e.Not v.0.at v.1) (sign k.Not ⨾ atom)) atom
 
 unfoldable pub cmp_op : G CmpOp
 cmp_op =
@@ -114,25 +114,25 @@ cmp_op =
 
 -- the set after `in`
 unfoldable pub container : G SetExpr
-container = either (mapped (λ x. s.Path x (expr_at x)) path) (braces (part Set))
+container = either (mapped (λ x. s.Path (expr_at x) x) path) (braces (part Set))
 
 -- what a comparison makes of its left side
 unfoldable pub comparison : G (Expr → Expr)
 comparison =
-    either (mapped (λ v left. e.Cmp v.0 left v.1 (expr_at left)) (cmp_op ⨾ unary))
-    (either (mapped (λ set left. e.Member left set (expr_at left)) (behind (keyword (codes "in")) container)) (nothing (λ left. left)))
+    either (mapped (λ v left. e.Cmp (expr_at left) v.0 left v.1) (cmp_op ⨾ unary))
+    (either (mapped (λ set left. e.Member (expr_at left) left set) (behind (keyword (codes "in")) container)) (nothing (λ left. left)))
 
 unfoldable pub compared : G Expr
 compared = mapped (λ v. v.1 v.0) (unary ⨾ comparison)
 
 unfoldable pub conjunction : G Expr
 conjunction =
-    mapped (λ v. fold (λ left right. e.And left right (expr_at left)) v.0 v.1)
+    mapped (λ v. fold (λ left right. e.And (expr_at left) left right) v.0 v.1)
     (compared ⨾ each AnyNumber (behind (sign k.AndAnd) compared))
 
 unfoldable pub disjunction : G Expr
 disjunction =
-    mapped (λ v. fold (λ left right. e.Or left right (expr_at left)) v.0 v.1)
+    mapped (λ v. fold (λ left right. e.Or (expr_at left) left right) v.0 v.1)
     (conjunction ⨾ each AnyNumber (behind (sign k.OrOr) conjunction))
 
 -- `if` and its condition
@@ -144,7 +144,7 @@ abbrev pub branches : {A : Type 0} → G A → G (A × A)
 branches f = behind (keyword (codes "then")) f ⨾ behind (keyword (codes "else")) f
 
 unfoldable pub if_expr : G Expr
-if_expr = mapped (λ v. e.IfE v.0.1 v.1.0 v.1.1 v.0.0.at) (condition ⨾ branches (part Expression))
+if_expr = mapped (λ v. e.IfE v.0.0.at v.0.1 v.1.0 v.1.1) (condition ⨾ branches (part Expression))
 
 -- `match`, what is taken apart, and `with`
 unfoldable pub scrutinee : G (Piece × Expr)
@@ -160,7 +160,7 @@ some_branch f = behind (sign k.Bar) (behind (keyword (codes "some")) (token Lowe
 
 unfoldable pub match_expr : G Expr
 match_expr =
-    mapped (λ v. e.MatchE v.0.1 v.1.0 (named v.1.1.0) v.1.1.1 v.0.0.at)
+    mapped (λ v. e.MatchE v.0.0.at v.0.1 v.1.0 (named v.1.1.0, v.1.1.1))
     (scrutinee ⨾ none_branch (part Expression) ⨾ some_branch (part Expression))
 
 unfoldable pub expression : G Expr
@@ -172,7 +172,7 @@ unfoldable pub item_form : G Item
 item_form = either (mapped (λ l. item.Static (named l)) (token Upper)) (mapped item.One (part Expression))
 
 unfoldable pub list : G SetExpr
-list = mapped (λ v. s.List v.1.0 v.0.at) (sign k.BracketOpen ⨾ listed item_form ⨾ sign k.BracketClose)
+list = mapped (λ v. s.List v.0.at v.1.0) (sign k.BracketOpen ⨾ listed item_form ⨾ sign k.BracketClose)
 
 unfoldable pub filter_op : G FilterOp
 filter_op =
@@ -185,7 +185,7 @@ filter_form =
 
 unfoldable pub find : G SetExpr
 find =
-    mapped (λ v. s.Find (named v.0) v.1 v.0.at)
+    mapped (λ v. s.Find v.0.at (named v.0) v.1)
     (token Upper ⨾ behind (sign k.ColonColon) (behind (type_word (codes "Find")) (parens (braces (listed filter_form)))))
 
 -- a variable and what follows the arrow
@@ -194,10 +194,10 @@ lambda f = token Lower ⨾ behind (sign k.Arrow) f
 
 -- what `map` and `flat_map` make of the set before them
 unfoldable pub map_step : G (SetExpr → SetExpr)
-map_step = mapped (λ v of. s.MapS of (named v.0) v.1 (set_at of)) (behind (keyword (codes "map")) (parens (lambda (part Expression))))
+map_step = mapped (λ v of. s.MapS (set_at of) of (named v.0) v.1) (behind (keyword (codes "map")) (parens (lambda (part Expression))))
 
 unfoldable pub flat_step : G (SetExpr → SetExpr)
-flat_step = mapped (λ v of. s.FlatS of (named v.0) v.1 (set_at of)) (behind (keyword (codes "flat_map")) (parens (lambda (part Set))))
+flat_step = mapped (λ v of. s.FlatS (set_at of) of (named v.0) v.1) (behind (keyword (codes "flat_map")) (parens (lambda (part Set))))
 
 abbrev pub step : SetExpr → (SetExpr → SetExpr) → SetExpr
 step of make = make of
@@ -215,7 +215,7 @@ path_steps = either (mapped (λ v of. v.1 (v.0 of)) (map_step ⨾ steps)) flat_s
 
 unfoldable pub path_chain : G SetExpr
 path_chain =
-    mapped (λ v. v.1.1 (s.Path (fold get (var_of v.0) v.1.0) v.0.at))
+    mapped (λ v. v.1.1 (s.Path v.0.at (fold get (var_of v.0) v.1.0)))
     (token Lower ⨾ ended AnyNumber (Sign k.Dot) (token Lower) path_steps (nothing (λ of. of)))
 
 unfoldable pub set_term : G SetExpr
@@ -226,17 +226,17 @@ set_term =
 -- what a sum or a difference makes of its left side
 unfoldable pub set_step : G (SetExpr → SetExpr)
 set_step =
-    either (mapped (λ right left. s.Sum left right (set_at left)) (behind (sign k.Plus) set_term))
-    (mapped (λ right left. s.Less left right (set_at left)) (behind (sign k.Minus) set_term))
+    either (mapped (λ right left. s.Sum (set_at left) left right) (behind (sign k.Plus) set_term))
+    (mapped (λ right left. s.Less (set_at left) left right) (behind (sign k.Minus) set_term))
 
 unfoldable pub sum : G SetExpr
 sum = mapped (λ v. fold step v.0 v.1) (set_term ⨾ each AnyNumber set_step)
 
 unfoldable pub if_set : G SetExpr
-if_set = mapped (λ v. s.IfS v.0.1 v.1.0 v.1.1 v.0.0.at) (condition ⨾ branches (part Set))
+if_set = mapped (λ v. s.IfS v.0.0.at v.0.1 v.1.0 v.1.1) (condition ⨾ branches (part Set))
 
 unfoldable pub match_set : G SetExpr
-match_set = mapped (λ v. s.MatchS v.0.1 v.1.0 (named v.1.1.0) v.1.1.1 v.0.0.at) (scrutinee ⨾ none_branch (part Set) ⨾ some_branch (part Set))
+match_set = mapped (λ v. s.MatchS v.0.0.at v.0.1 v.1.0 (named v.1.1.0) v.1.1.1) (scrutinee ⨾ none_branch (part Set) ⨾ some_branch (part Set))
 
 unfoldable pub set : G SetExpr
 set = either if_set (either match_set sum)

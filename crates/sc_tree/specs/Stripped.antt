@@ -36,20 +36,20 @@ stripped_reason r = record { text = r.text; at = 0 }
 -- ---- one level, of which the parts are stripped
 
 abbrev pub expr_level : ExprLayer → Expr
-expr_level (Expr-F.Flag value at) = e.Flag value 0
-expr_level (Expr-F.Num value at) = e.Num value 0
-expr_level (Expr-F.Str text at) = e.Str text 0
-expr_level (Expr-F.Var x at) = e.Var (stripped_name x) 0
+expr_level (Expr-F.Flag at value) = e.Flag 0 value
+expr_level (Expr-F.Num at value) = e.Num 0 value
+expr_level (Expr-F.Str at text) = e.Str 0 text
+expr_level (Expr-F.Var at x) = e.Var 0 (stripped_name x)
 expr_level (Expr-F.NoneLit at) = e.NoneLit 0
-expr_level (Expr-F.SomeLit inner at) = e.SomeLit inner 0
-expr_level (Expr-F.Get of field at) = e.Get of (stripped_name field) 0
-expr_level (Expr-F.Cmp op left right at) = e.Cmp op left right 0
-expr_level (Expr-F.Member of set at) = e.Member of set 0
-expr_level (Expr-F.Not inner at) = e.Not inner 0
-expr_level (Expr-F.And left right at) = e.And left right 0
-expr_level (Expr-F.Or left right at) = e.Or left right 0
-expr_level (Expr-F.IfE test one other at) = e.IfE test one other 0
-expr_level (Expr-F.MatchE of none x some at) = e.MatchE of none (stripped_name x) some 0
+expr_level (Expr-F.SomeLit at inner) = e.SomeLit 0 inner
+expr_level (Expr-F.Get at of field) = e.Get 0 of (stripped_name field)
+expr_level (Expr-F.Cmp at op left right) = e.Cmp 0 op left right
+expr_level (Expr-F.Member at of set) = e.Member 0 of set
+expr_level (Expr-F.Not at inner) = e.Not 0 inner
+expr_level (Expr-F.And at left right) = e.And 0 left right
+expr_level (Expr-F.Or at left right) = e.Or 0 left right
+expr_level (Expr-F.IfE at test one other) = e.IfE 0 test one other
+expr_level (Expr-F.MatchE at of none (x, some)) = e.MatchE 0 of none (stripped_name x, some)
 
 abbrev pub item_level : Item-F Expr Item SetExpr Filter → Item
 item_level (Item-F.Static x) = item.Static (stripped_name x)
@@ -59,17 +59,17 @@ abbrev pub filter_level : Filter-F Expr Item SetExpr Filter → Filter
 filter_level f = roll-Filter (record { field = stripped_name f.field; op = f.op; value = f.value })
 
 abbrev pub set_level : SetLayer → SetExpr
-set_level (SetExpr-F.Everyone word at) = s.Everyone 0 0
+set_level (SetExpr-F.Everyone at word) = s.Everyone 0 0
 set_level (SetExpr-F.Nobody at) = s.Nobody 0
-set_level (SetExpr-F.List items at) = s.List items 0
-set_level (SetExpr-F.Sum left right at) = s.Sum left right 0
-set_level (SetExpr-F.Less left right at) = s.Less left right 0
-set_level (SetExpr-F.Find model filters at) = s.Find (stripped_name model) filters 0
-set_level (SetExpr-F.Path path at) = s.Path path 0
-set_level (SetExpr-F.MapS of x each at) = s.MapS of (stripped_name x) each 0
-set_level (SetExpr-F.FlatS of x each at) = s.FlatS of (stripped_name x) each 0
-set_level (SetExpr-F.IfS test one other at) = s.IfS test one other 0
-set_level (SetExpr-F.MatchS of none x some at) = s.MatchS of none (stripped_name x) some 0
+set_level (SetExpr-F.List at items) = s.List 0 items
+set_level (SetExpr-F.Sum at left right) = s.Sum 0 left right
+set_level (SetExpr-F.Less at left right) = s.Less 0 left right
+set_level (SetExpr-F.Find at model filters) = s.Find 0 (stripped_name model) filters
+set_level (SetExpr-F.Path at path) = s.Path 0 path
+set_level (SetExpr-F.MapS at of x each) = s.MapS 0 of (stripped_name x) each
+set_level (SetExpr-F.FlatS at of x each) = s.FlatS 0 of (stripped_name x) each
+set_level (SetExpr-F.IfS at test one other) = s.IfS 0 test one other
+set_level (SetExpr-F.MatchS at of none x some) = s.MatchS 0 of none (stripped_name x) some
 
 -- ---- whole trees
 

@@ -1,7 +1,8 @@
 //! Expressions and sets.
 //!
-//! The last part of each variant is the offset of its first token, which is an opening parenthesis
-//! where the variant stands in parentheses.
+//! The first part of each variant is the offset of its first token, which is an opening parenthesis
+//! where the variant stands in parentheses. It lies beside the variant's tag, and what is rare or
+//! large lies in a box: an expression takes 32 bytes and a set 40.
 
 use crate::named::Named;
 use sc_ast::Txt;
@@ -37,58 +38,58 @@ pub enum FilterOp {
 #[derive(Drop)]
 pub enum Expr {
     /// `true` or `false`.
-    Flag(bool, u32),
-    Num(i64, u32),
-    Str(Txt, u32),
+    Flag(u32, bool),
+    Num(u32, i64),
+    Str(u32, Boxed<Txt>),
     /// A variable. Its name has an offset of its own, inside the parentheses.
-    Var(Named, u32),
+    Var(u32, Named),
     /// `none`
     NoneLit(u32),
     /// `some(e)`
-    SomeLit(Boxed<Expr>, u32),
+    SomeLit(u32, Boxed<Expr>),
     /// `e.f`
-    Get(Boxed<Expr>, Named, u32),
-    Cmp(CmpOp, Boxed<Expr>, Boxed<Expr>, u32),
+    Get(u32, Boxed<Expr>, Boxed<Named>),
+    Cmp(u32, CmpOp, Boxed<Expr>, Boxed<Expr>),
     /// `e in S`: the record that `e` names is in the set.
-    Member(Boxed<Expr>, Boxed<SetExpr>, u32),
+    Member(u32, Boxed<Expr>, Boxed<SetExpr>),
     /// `!e`
-    Not(Boxed<Expr>, u32),
+    Not(u32, Boxed<Expr>),
     /// `a && b`
-    And(Boxed<Expr>, Boxed<Expr>, u32),
+    And(u32, Boxed<Expr>, Boxed<Expr>),
     /// `a || b`
-    Or(Boxed<Expr>, Boxed<Expr>, u32),
+    Or(u32, Boxed<Expr>, Boxed<Expr>),
     /// `if c then a else b`
-    IfE(Boxed<Expr>, Boxed<Expr>, Boxed<Expr>, u32),
-    /// `match e with none -> a | some x -> b`
-    MatchE(Boxed<Expr>, Boxed<Expr>, Named, Boxed<Expr>, u32),
+    IfE(u32, Boxed<Expr>, Boxed<Expr>, Boxed<Expr>),
+    /// `match e with none -> a | some x -> b`, with `x` and `b` in one piece of memory.
+    MatchE(u32, Boxed<Expr>, Boxed<Expr>, Boxed<(Named, Expr)>),
 }
 
 /// A set of principals or of records.
 #[cycle(tree)]
 #[derive(Drop)]
 pub enum SetExpr {
-    /// `public`, with the offset of the word, inside the parentheses.
+    /// `public`, and the offset of the word, inside the parentheses.
     Everyone(u32, u32),
     /// `none`
     Nobody(u32),
     /// `[a, b]`
-    List(Items<Item>, u32),
+    List(u32, Items<Item>),
     /// `S + T`
-    Sum(Boxed<SetExpr>, Boxed<SetExpr>, u32),
+    Sum(u32, Boxed<SetExpr>, Boxed<SetExpr>),
     /// `S - T`
-    Less(Boxed<SetExpr>, Boxed<SetExpr>, u32),
+    Less(u32, Boxed<SetExpr>, Boxed<SetExpr>),
     /// `M::Find({..})`
-    Find(Named, Items<Filter>, u32),
+    Find(u32, Boxed<Named>, Items<Filter>),
     /// A variable or a field of it that is a set.
-    Path(Expr, u32),
+    Path(u32, Expr),
     /// `S.map(x -> e)`
-    MapS(Boxed<SetExpr>, Named, Expr, u32),
+    MapS(u32, Boxed<SetExpr>, Boxed<Named>, Boxed<Expr>),
     /// `S.flat_map(x -> T)`
-    FlatS(Boxed<SetExpr>, Named, Boxed<SetExpr>, u32),
+    FlatS(u32, Boxed<SetExpr>, Boxed<Named>, Boxed<SetExpr>),
     /// `if c then S else T`
-    IfS(Expr, Boxed<SetExpr>, Boxed<SetExpr>, u32),
+    IfS(u32, Boxed<Expr>, Boxed<SetExpr>, Boxed<SetExpr>),
     /// `match e with none -> S | some x -> T`
-    MatchS(Expr, Boxed<SetExpr>, Named, Boxed<SetExpr>, u32),
+    MatchS(u32, Boxed<Expr>, Boxed<SetExpr>, Boxed<Named>, Boxed<SetExpr>),
 }
 
 /// An item of a list. Its first token is that of the name or of the expression.

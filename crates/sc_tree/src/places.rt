@@ -12,20 +12,20 @@ impl Expr {
         ensures { result ≡ expr_at self.now }
     {
         match self {
-            Expr::Flag(_, at) => *at,
-            Expr::Num(_, at) => *at,
-            Expr::Str(_, at) => *at,
-            Expr::Var(_, at) => *at,
+            Expr::Flag(at, _) => *at,
+            Expr::Num(at, _) => *at,
+            Expr::Str(at, _) => *at,
+            Expr::Var(at, _) => *at,
             Expr::NoneLit(at) => *at,
-            Expr::SomeLit(_, at) => *at,
-            Expr::Get(_, _, at) => *at,
-            Expr::Cmp(_, _, _, at) => *at,
-            Expr::Member(_, _, at) => *at,
-            Expr::Not(_, at) => *at,
-            Expr::And(_, _, at) => *at,
-            Expr::Or(_, _, at) => *at,
-            Expr::IfE(_, _, _, at) => *at,
-            Expr::MatchE(_, _, _, _, at) => *at,
+            Expr::SomeLit(at, _) => *at,
+            Expr::Get(at, _, _) => *at,
+            Expr::Cmp(at, _, _, _) => *at,
+            Expr::Member(at, _, _) => *at,
+            Expr::Not(at, _) => *at,
+            Expr::And(at, _, _) => *at,
+            Expr::Or(at, _, _) => *at,
+            Expr::IfE(at, _, _, _) => *at,
+            Expr::MatchE(at, _, _, _) => *at,
         }
     }
 
@@ -35,20 +35,20 @@ impl Expr {
         ensures { result ≡ placed_expr at self }
     {
         match self {
-            Expr::Flag(value, _) => Expr::Flag(value, at),
-            Expr::Num(value, _) => Expr::Num(value, at),
-            Expr::Str(text, _) => Expr::Str(text, at),
-            Expr::Var(name, _) => Expr::Var(name, at),
+            Expr::Flag(_, value) => Expr::Flag(at, value),
+            Expr::Num(_, value) => Expr::Num(at, value),
+            Expr::Str(_, text) => Expr::Str(at, text),
+            Expr::Var(_, name) => Expr::Var(at, name),
             Expr::NoneLit(_) => Expr::NoneLit(at),
-            Expr::SomeLit(inner, _) => Expr::SomeLit(inner, at),
-            Expr::Get(of, field, _) => Expr::Get(of, field, at),
-            Expr::Cmp(op, left, right, _) => Expr::Cmp(op, left, right, at),
-            Expr::Member(of, set, _) => Expr::Member(of, set, at),
-            Expr::Not(inner, _) => Expr::Not(inner, at),
-            Expr::And(left, right, _) => Expr::And(left, right, at),
-            Expr::Or(left, right, _) => Expr::Or(left, right, at),
-            Expr::IfE(test, one, other, _) => Expr::IfE(test, one, other, at),
-            Expr::MatchE(of, none, name, some, _) => Expr::MatchE(of, none, name, some, at),
+            Expr::SomeLit(_, inner) => Expr::SomeLit(at, inner),
+            Expr::Get(_, of, field) => Expr::Get(at, of, field),
+            Expr::Cmp(_, op, left, right) => Expr::Cmp(at, op, left, right),
+            Expr::Member(_, of, set) => Expr::Member(at, of, set),
+            Expr::Not(_, inner) => Expr::Not(at, inner),
+            Expr::And(_, left, right) => Expr::And(at, left, right),
+            Expr::Or(_, left, right) => Expr::Or(at, left, right),
+            Expr::IfE(_, test, one, other) => Expr::IfE(at, test, one, other),
+            Expr::MatchE(_, of, none, some) => Expr::MatchE(at, of, none, some),
         }
     }
 }
@@ -60,17 +60,17 @@ impl SetExpr {
         ensures { result ≡ set_at self.now }
     {
         match self {
-            SetExpr::Everyone(_, at) => *at,
+            SetExpr::Everyone(at, _) => *at,
             SetExpr::Nobody(at) => *at,
-            SetExpr::List(_, at) => *at,
-            SetExpr::Sum(_, _, at) => *at,
-            SetExpr::Less(_, _, at) => *at,
-            SetExpr::Find(_, _, at) => *at,
-            SetExpr::Path(_, at) => *at,
-            SetExpr::MapS(_, _, _, at) => *at,
-            SetExpr::FlatS(_, _, _, at) => *at,
-            SetExpr::IfS(_, _, _, at) => *at,
-            SetExpr::MatchS(_, _, _, _, at) => *at,
+            SetExpr::List(at, _) => *at,
+            SetExpr::Sum(at, _, _) => *at,
+            SetExpr::Less(at, _, _) => *at,
+            SetExpr::Find(at, _, _) => *at,
+            SetExpr::Path(at, _) => *at,
+            SetExpr::MapS(at, _, _, _) => *at,
+            SetExpr::FlatS(at, _, _, _) => *at,
+            SetExpr::IfS(at, _, _, _) => *at,
+            SetExpr::MatchS(at, _, _, _, _) => *at,
         }
     }
 
@@ -80,17 +80,17 @@ impl SetExpr {
         ensures { result ≡ placed_set at self }
     {
         match self {
-            SetExpr::Everyone(word, _) => SetExpr::Everyone(word, at),
+            SetExpr::Everyone(_, word) => SetExpr::Everyone(at, word),
             SetExpr::Nobody(_) => SetExpr::Nobody(at),
-            SetExpr::List(items, _) => SetExpr::List(items, at),
-            SetExpr::Sum(left, right, _) => SetExpr::Sum(left, right, at),
-            SetExpr::Less(left, right, _) => SetExpr::Less(left, right, at),
-            SetExpr::Find(model, filters, _) => SetExpr::Find(model, filters, at),
-            SetExpr::Path(path, _) => SetExpr::Path(path, at),
-            SetExpr::MapS(of, name, each, _) => SetExpr::MapS(of, name, each, at),
-            SetExpr::FlatS(of, name, each, _) => SetExpr::FlatS(of, name, each, at),
-            SetExpr::IfS(test, one, other, _) => SetExpr::IfS(test, one, other, at),
-            SetExpr::MatchS(of, none, name, some, _) => SetExpr::MatchS(of, none, name, some, at),
+            SetExpr::List(_, items) => SetExpr::List(at, items),
+            SetExpr::Sum(_, left, right) => SetExpr::Sum(at, left, right),
+            SetExpr::Less(_, left, right) => SetExpr::Less(at, left, right),
+            SetExpr::Find(_, model, filters) => SetExpr::Find(at, model, filters),
+            SetExpr::Path(_, path) => SetExpr::Path(at, path),
+            SetExpr::MapS(_, of, name, each) => SetExpr::MapS(at, of, name, each),
+            SetExpr::FlatS(_, of, name, each) => SetExpr::FlatS(at, of, name, each),
+            SetExpr::IfS(_, test, one, other) => SetExpr::IfS(at, test, one, other),
+            SetExpr::MatchS(_, of, none, name, some) => SetExpr::MatchS(at, of, none, name, some),
         }
     }
 }

@@ -47,7 +47,7 @@ pub first_part : {A B : Type 0} (o : Checked A) (f : A → Checked B) (b : B) �
 first_part (Ok a) f b h = (a, refl, h)
 first_part (Err e) f b h = let never : ⊥ = cc in absurd never
 
-pub Var_parts : (s : Schema) (vars : List Var) (asked : Option TTy) (x : Named) (at : ℕ) (r : Typed) → typed_expr s vars asked (e.Var x at) ≡ Ok r
+pub Var_parts : (s : Schema) (vars : List Var) (asked : Option TTy) (x : Named) (at : ℕ) (r : Typed) → typed_expr s vars asked (e.Var at x) ≡ Ok r
     → (var : ℕ × TTy)
     × (or_else (var_named vars x.name) (Unknown x.at) ≡ Ok var) × (fits (of_type at var.1 (t.Var var.0 x.name)) asked ≡ Ok r)
 Var_parts s vars asked x at r h =
@@ -55,7 +55,7 @@ Var_parts s vars asked x at r h =
     let p0 = first_part (or_else (var_named vars x.name) (Unknown x.at)) rest0 r (sym (form.Var_is s vars asked x at) ∙ h) in
     (p0.0, p0.1, p0.2)
 
-pub SomeLit_parts : (s : Schema) (vars : List Var) (asked : Option TTy) (x : Expr) (at : ℕ) (r : Typed) → typed_expr s vars asked (e.SomeLit x at) ≡ Ok r
+pub SomeLit_parts : (s : Schema) (vars : List Var) (asked : Option TTy) (x : Expr) (at : ℕ) (r : Typed) → typed_expr s vars asked (e.SomeLit at x) ≡ Ok r
     → (inner : Typed) × (b : TBase)
     × (typed_expr s vars (inner_asked asked) x ≡ Ok inner) × (base_of inner.ty inner.at ≡ Ok b) × (fits (of_type at (Opt b) (t.SomeLit inner.tree)) asked ≡ Ok r)
 SomeLit_parts s vars asked x at r h =
@@ -65,7 +65,7 @@ SomeLit_parts s vars asked x at r h =
     let p1 = first_part (base_of p0.0.ty p0.0.at) rest1 r p0.2 in
     (p0.0, p1.0, p0.1, p1.1, p1.2)
 
-pub Get_parts : (s : Schema) (vars : List Var) (asked : Option TTy) (x : Expr) (f : Named) (at : ℕ) (r : Typed) → typed_expr s vars asked (e.Get x f at) ≡ Ok r
+pub Get_parts : (s : Schema) (vars : List Var) (asked : Option TTy) (x : Expr) (f : Named) (at : ℕ) (r : Typed) → typed_expr s vars asked (e.Get at x f) ≡ Ok r
     → (of : Typed) × (field : ℕ × ℕ × TTy)
     × (typed_expr s vars None x ≡ Ok of) × (field_of_record s of.ty of.at f ≡ Ok field) × (fits (of_type at field.2 (t.Get of.tree field.0 field.1)) asked ≡ Ok r)
 Get_parts s vars asked x f at r h =
@@ -75,7 +75,7 @@ Get_parts s vars asked x f at r h =
     let p1 = first_part (field_of_record s p0.0.ty p0.0.at f) rest1 r p0.2 in
     (p0.0, p1.0, p0.1, p1.1, p1.2)
 
-pub Cmp_parts : (s : Schema) (vars : List Var) (asked : Option TTy) (op : CmpOp) (x y : Expr) (at : ℕ) (r : Typed) → typed_expr s vars asked (e.Cmp op x y at) ≡ Ok r
+pub Cmp_parts : (s : Schema) (vars : List Var) (asked : Option TTy) (op : CmpOp) (x y : Expr) (at : ℕ) (r : Typed) → typed_expr s vars asked (e.Cmp at op x y) ≡ Ok r
     → (left : Typed) × (by : TBase) × (right : Typed)
     × (typed_expr s vars (left_asked op) x ≡ Ok left) × (base_of left.ty left.at ≡ Ok by) × (typed_expr s vars (Some left.ty) y ≡ Ok right) × (fits (truth at (compared op by left.tree right.tree)) asked ≡ Ok r)
 Cmp_parts s vars asked op x y at r h =
@@ -87,7 +87,7 @@ Cmp_parts s vars asked op x y at r h =
     let p2 = first_part (typed_expr s vars (Some p0.0.ty) y) rest2 r p1.2 in
     (p0.0, p1.0, p2.0, p0.1, p1.1, p2.1, p2.2)
 
-pub Member_parts : (s : Schema) (vars : List Var) (asked : Option TTy) (x : Expr) (set : SetExpr) (at : ℕ) (r : Typed) → typed_expr s vars asked (e.Member x set at) ≡ Ok r
+pub Member_parts : (s : Schema) (vars : List Var) (asked : Option TTy) (x : Expr) (set : SetExpr) (at : ℕ) (r : Typed) → typed_expr s vars asked (e.Member at x set) ≡ Ok r
     → (of : Typed) × (m : ℕ) × (all : TSet)
     × (typed_expr s vars None x ≡ Ok of) × (id_of of.ty of.at ≡ Ok m) × (typed_set s vars (Records m) set ≡ Ok all) × (fits (truth at (t.Member of.tree m all)) asked ≡ Ok r)
 Member_parts s vars asked x set at r h =
@@ -99,7 +99,7 @@ Member_parts s vars asked x set at r h =
     let p2 = first_part (typed_set s vars (Records p1.0) set) rest2 r p1.2 in
     (p0.0, p1.0, p2.0, p0.1, p1.1, p2.1, p2.2)
 
-pub Not_parts : (s : Schema) (vars : List Var) (asked : Option TTy) (x : Expr) (at : ℕ) (r : Typed) → typed_expr s vars asked (e.Not x at) ≡ Ok r
+pub Not_parts : (s : Schema) (vars : List Var) (asked : Option TTy) (x : Expr) (at : ℕ) (r : Typed) → typed_expr s vars asked (e.Not at x) ≡ Ok r
     → (inner : Typed)
     × (typed_expr s vars bool x ≡ Ok inner) × (fits (truth at (t.Not inner.tree)) asked ≡ Ok r)
 Not_parts s vars asked x at r h =
@@ -107,7 +107,7 @@ Not_parts s vars asked x at r h =
     let p0 = first_part (typed_expr s vars bool x) rest0 r (sym (form.Not_is s vars asked x at) ∙ h) in
     (p0.0, p0.1, p0.2)
 
-pub And_parts : (s : Schema) (vars : List Var) (asked : Option TTy) (x y : Expr) (at : ℕ) (r : Typed) → typed_expr s vars asked (e.And x y at) ≡ Ok r
+pub And_parts : (s : Schema) (vars : List Var) (asked : Option TTy) (x y : Expr) (at : ℕ) (r : Typed) → typed_expr s vars asked (e.And at x y) ≡ Ok r
     → (left : Typed) × (right : Typed)
     × (typed_expr s vars bool x ≡ Ok left) × (typed_expr s vars bool y ≡ Ok right) × (fits (truth at (t.And left.tree right.tree)) asked ≡ Ok r)
 And_parts s vars asked x y at r h =
@@ -117,7 +117,7 @@ And_parts s vars asked x y at r h =
     let p1 = first_part (typed_expr s vars bool y) rest1 r p0.2 in
     (p0.0, p1.0, p0.1, p1.1, p1.2)
 
-pub Or_parts : (s : Schema) (vars : List Var) (asked : Option TTy) (x y : Expr) (at : ℕ) (r : Typed) → typed_expr s vars asked (e.Or x y at) ≡ Ok r
+pub Or_parts : (s : Schema) (vars : List Var) (asked : Option TTy) (x y : Expr) (at : ℕ) (r : Typed) → typed_expr s vars asked (e.Or at x y) ≡ Ok r
     → (left : Typed) × (right : Typed)
     × (typed_expr s vars bool x ≡ Ok left) × (typed_expr s vars bool y ≡ Ok right) × (fits (truth at (t.Or left.tree right.tree)) asked ≡ Ok r)
 Or_parts s vars asked x y at r h =
@@ -127,7 +127,7 @@ Or_parts s vars asked x y at r h =
     let p1 = first_part (typed_expr s vars bool y) rest1 r p0.2 in
     (p0.0, p1.0, p0.1, p1.1, p1.2)
 
-pub IfE_parts : (s : Schema) (vars : List Var) (asked : Option TTy) (c x y : Expr) (at : ℕ) (r : Typed) → typed_expr s vars asked (e.IfE c x y at) ≡ Ok r
+pub IfE_parts : (s : Schema) (vars : List Var) (asked : Option TTy) (c x y : Expr) (at : ℕ) (r : Typed) → typed_expr s vars asked (e.IfE at c x y) ≡ Ok r
     → (test : Typed) × (one : Typed) × (other : Typed)
     × (typed_expr s vars bool c ≡ Ok test) × (typed_expr s vars asked x ≡ Ok one) × (typed_expr s vars (Some one.ty) y ≡ Ok other) × (of_type at one.ty (t.IfE test.tree one.tree other.tree) ≡ r)
 IfE_parts s vars asked c x y at r h =
@@ -139,7 +139,7 @@ IfE_parts s vars asked c x y at r h =
     let p2 = first_part (typed_expr s vars (Some p1.0.ty) y) rest2 r p1.2 in
     (p0.0, p1.0, p2.0, p0.1, p1.1, p2.1, ok_same (of_type at p1.0.ty (t.IfE p0.0.tree p1.0.tree p2.0.tree)) r p2.2)
 
-pub MatchE_parts : (s : Schema) (vars : List Var) (asked : Option TTy) (x y : Expr) (v : Named) (z : Expr) (at : ℕ) (r : Typed) → typed_expr s vars asked (e.MatchE x y v z at) ≡ Ok r
+pub MatchE_parts : (s : Schema) (vars : List Var) (asked : Option TTy) (x y : Expr) (v : Named) (z : Expr) (at : ℕ) (r : Typed) → typed_expr s vars asked (e.MatchE at x y (v, z)) ≡ Ok r
     → (of : Typed) × (inside : TBase) × (none : Typed) × (inner : List Var) × (some : Typed)
     × (typed_expr s vars None x ≡ Ok of) × (option_of of.ty of.at ≡ Ok inside) × (typed_expr s vars asked y ≡ Ok none) × (under vars v (Plain inside) ≡ Ok inner) × (typed_expr s inner (Some none.ty) z ≡ Ok some) × (of_type at none.ty (t.MatchE of.tree none.tree v.name some.tree) ≡ r)
 MatchE_parts s vars asked x y v z at r h =
@@ -155,7 +155,7 @@ MatchE_parts s vars asked x y v z at r h =
     let p4 = first_part (typed_expr s p3.0 (Some p2.0.ty) z) rest4 r p3.2 in
     (p0.0, p1.0, p2.0, p3.0, p4.0, p0.1, p1.1, p2.1, p3.1, p4.1, ok_same (of_type at p2.0.ty (t.MatchE p0.0.tree p2.0.tree v.name p4.0.tree)) r p4.2)
 
-pub Everyone_parts : (s : Schema) (vars : List Var) (content : Content) (word at : ℕ) (r : TSet) → typed_set s vars content (se.Everyone word at) ≡ Ok r
+pub Everyone_parts : (s : Schema) (vars : List Var) (content : Content) (word at : ℕ) (r : TSet) → typed_set s vars content (se.Everyone at word) ≡ Ok r
     → (only : Unit {0})
     × (among_principals content word ≡ Ok only) × (ts.Everyone ≡ r)
 Everyone_parts s vars content word at r h =
@@ -163,7 +163,7 @@ Everyone_parts s vars content word at r h =
     let p0 = first_part (among_principals content word) rest0 r (sym (form.Everyone_is s vars content word at) ∙ h) in
     (p0.0, p0.1, ok_same (ts.Everyone) r p0.2)
 
-pub Sum_parts : (s : Schema) (vars : List Var) (content : Content) (x y : SetExpr) (at : ℕ) (r : TSet) → typed_set s vars content (se.Sum x y at) ≡ Ok r
+pub Sum_parts : (s : Schema) (vars : List Var) (content : Content) (x y : SetExpr) (at : ℕ) (r : TSet) → typed_set s vars content (se.Sum at x y) ≡ Ok r
     → (left : TSet) × (right : TSet)
     × (typed_set s vars content x ≡ Ok left) × (typed_set s vars content y ≡ Ok right) × (ts.Sum left right ≡ r)
 Sum_parts s vars content x y at r h =
@@ -173,7 +173,7 @@ Sum_parts s vars content x y at r h =
     let p1 = first_part (typed_set s vars content y) rest1 r p0.2 in
     (p0.0, p1.0, p0.1, p1.1, ok_same (ts.Sum p0.0 p1.0) r p1.2)
 
-pub Less_parts : (s : Schema) (vars : List Var) (content : Content) (x y : SetExpr) (at : ℕ) (r : TSet) → typed_set s vars content (se.Less x y at) ≡ Ok r
+pub Less_parts : (s : Schema) (vars : List Var) (content : Content) (x y : SetExpr) (at : ℕ) (r : TSet) → typed_set s vars content (se.Less at x y) ≡ Ok r
     → (left : TSet) × (right : TSet)
     × (typed_set s vars content x ≡ Ok left) × (typed_set s vars content y ≡ Ok right) × (ts.Less left right ≡ r)
 Less_parts s vars content x y at r h =
@@ -183,7 +183,7 @@ Less_parts s vars content x y at r h =
     let p1 = first_part (typed_set s vars content y) rest1 r p0.2 in
     (p0.0, p1.0, p0.1, p1.1, ok_same (ts.Less p0.0 p1.0) r p1.2)
 
-pub List_parts : (s : Schema) (vars : List Var) (content : Content) (xs : List Item) (at : ℕ) (r : TSet) → typed_set s vars content (se.List xs at) ≡ Ok r
+pub List_parts : (s : Schema) (vars : List Var) (content : Content) (xs : List Item) (at : ℕ) (r : TSet) → typed_set s vars content (se.List at xs) ≡ Ok r
     → (all : List TItem)
     × (typed_items s vars content xs ≡ Ok all) × (ts.List all ≡ r)
 List_parts s vars content xs at r h =
@@ -191,37 +191,37 @@ List_parts s vars content xs at r h =
     let p0 = first_part (typed_items s vars content xs) rest0 r (sym (form.List_is s vars content xs at) ∙ h) in
     (p0.0, p0.1, ok_same (ts.List p0.0) r p0.2)
 
-pub Find_parts : (s : Schema) (vars : List Var) (content : Content) (model : Named) (fs : List Filter) (at : ℕ) (r : TSet) → typed_set s vars content (se.Find model fs at) ≡ Ok r
+pub Find_parts : (s : Schema) (vars : List Var) (content : Content) (model : Named) (fs : List Filter) (at : ℕ) (r : TSet) → typed_set s vars content (se.Find at model fs) ≡ Ok r
     → (of : Source) × (held : Unit {0})
-    × (typed_source s vars (se.Find model fs at) ≡ Ok of) × (may_hold s content of.model of.at ≡ Ok held) × (of.set ≡ r)
+    × (typed_source s vars (se.Find at model fs) ≡ Ok of) × (may_hold s content of.model of.at ≡ Ok held) × (of.set ≡ r)
 Find_parts s vars content model fs at r h =
     let rest0 : (Source) → Checked (TSet) = λ of. (may_hold s content of.model of.at >>= (λ held. Ok (of.set))) in
-    let p0 = first_part (typed_source s vars (se.Find model fs at)) rest0 r (sym (form.Find_is s vars content model fs at) ∙ h) in
+    let p0 = first_part (typed_source s vars (se.Find at model fs)) rest0 r (sym (form.Find_is s vars content model fs at) ∙ h) in
     let rest1 : (Unit {0}) → Checked (TSet) = λ held. Ok (p0.0.set) in
     let p1 = first_part (may_hold s content p0.0.model p0.0.at) rest1 r p0.2 in
     (p0.0, p1.0, p0.1, p1.1, ok_same (p0.0.set) r p1.2)
 
-pub Path_parts : (s : Schema) (vars : List Var) (content : Content) (x : Expr) (at : ℕ) (r : TSet) → typed_set s vars content (se.Path x at) ≡ Ok r
+pub Path_parts : (s : Schema) (vars : List Var) (content : Content) (x : Expr) (at : ℕ) (r : TSet) → typed_set s vars content (se.Path at x) ≡ Ok r
     → (of : Source) × (held : Unit {0})
-    × (typed_source s vars (se.Path x at) ≡ Ok of) × (may_hold s content of.model of.at ≡ Ok held) × (of.set ≡ r)
+    × (typed_source s vars (se.Path at x) ≡ Ok of) × (may_hold s content of.model of.at ≡ Ok held) × (of.set ≡ r)
 Path_parts s vars content x at r h =
     let rest0 : (Source) → Checked (TSet) = λ of. (may_hold s content of.model of.at >>= (λ held. Ok (of.set))) in
-    let p0 = first_part (typed_source s vars (se.Path x at)) rest0 r (sym (form.Path_is s vars content x at) ∙ h) in
+    let p0 = first_part (typed_source s vars (se.Path at x)) rest0 r (sym (form.Path_is s vars content x at) ∙ h) in
     let rest1 : (Unit {0}) → Checked (TSet) = λ held. Ok (p0.0.set) in
     let p1 = first_part (may_hold s content p0.0.model p0.0.at) rest1 r p0.2 in
     (p0.0, p1.0, p0.1, p1.1, ok_same (p0.0.set) r p1.2)
 
-pub MapS_parts : (s : Schema) (vars : List Var) (content : Content) (x : SetExpr) (v : Named) (y : Expr) (at : ℕ) (r : TSet) → typed_set s vars content (se.MapS x v y at) ≡ Ok r
+pub MapS_parts : (s : Schema) (vars : List Var) (content : Content) (x : SetExpr) (v : Named) (y : Expr) (at : ℕ) (r : TSet) → typed_set s vars content (se.MapS at x v y) ≡ Ok r
     → (of : Source) × (held : Unit {0})
-    × (typed_source s vars (se.MapS x v y at) ≡ Ok of) × (may_hold s content of.model of.at ≡ Ok held) × (of.set ≡ r)
+    × (typed_source s vars (se.MapS at x v y) ≡ Ok of) × (may_hold s content of.model of.at ≡ Ok held) × (of.set ≡ r)
 MapS_parts s vars content x v y at r h =
     let rest0 : (Source) → Checked (TSet) = λ of. (may_hold s content of.model of.at >>= (λ held. Ok (of.set))) in
-    let p0 = first_part (typed_source s vars (se.MapS x v y at)) rest0 r (sym (form.MapS_is s vars content x v y at) ∙ h) in
+    let p0 = first_part (typed_source s vars (se.MapS at x v y)) rest0 r (sym (form.MapS_is s vars content x v y at) ∙ h) in
     let rest1 : (Unit {0}) → Checked (TSet) = λ held. Ok (p0.0.set) in
     let p1 = first_part (may_hold s content p0.0.model p0.0.at) rest1 r p0.2 in
     (p0.0, p1.0, p0.1, p1.1, ok_same (p0.0.set) r p1.2)
 
-pub FlatS_parts : (s : Schema) (vars : List Var) (content : Content) (x : SetExpr) (v : Named) (y : SetExpr) (at : ℕ) (r : TSet) → typed_set s vars content (se.FlatS x v y at) ≡ Ok r
+pub FlatS_parts : (s : Schema) (vars : List Var) (content : Content) (x : SetExpr) (v : Named) (y : SetExpr) (at : ℕ) (r : TSet) → typed_set s vars content (se.FlatS at x v y) ≡ Ok r
     → (over : Source) × (inner : List Var) × (each : TSet)
     × (typed_source s vars x ≡ Ok over) × (under vars v (Plain (base.Id over.model)) ≡ Ok inner) × (typed_set s inner content y ≡ Ok each) × (ts.FlatS over.set over.model v.name each ≡ r)
 FlatS_parts s vars content x v y at r h =
@@ -233,7 +233,7 @@ FlatS_parts s vars content x v y at r h =
     let p2 = first_part (typed_set s p1.0 content y) rest2 r p1.2 in
     (p0.0, p1.0, p2.0, p0.1, p1.1, p2.1, ok_same (ts.FlatS p0.0.set p0.0.model v.name p2.0) r p2.2)
 
-pub IfS_parts : (s : Schema) (vars : List Var) (content : Content) (c : Expr) (x y : SetExpr) (at : ℕ) (r : TSet) → typed_set s vars content (se.IfS c x y at) ≡ Ok r
+pub IfS_parts : (s : Schema) (vars : List Var) (content : Content) (c : Expr) (x y : SetExpr) (at : ℕ) (r : TSet) → typed_set s vars content (se.IfS at c x y) ≡ Ok r
     → (test : Typed) × (one : TSet) × (other : TSet)
     × (typed_expr s vars bool c ≡ Ok test) × (typed_set s vars content x ≡ Ok one) × (typed_set s vars content y ≡ Ok other) × (ts.IfS test.tree one other ≡ r)
 IfS_parts s vars content c x y at r h =
@@ -245,7 +245,7 @@ IfS_parts s vars content c x y at r h =
     let p2 = first_part (typed_set s vars content y) rest2 r p1.2 in
     (p0.0, p1.0, p2.0, p0.1, p1.1, p2.1, ok_same (ts.IfS p0.0.tree p1.0 p2.0) r p2.2)
 
-pub MatchS_parts : (s : Schema) (vars : List Var) (content : Content) (x : Expr) (y : SetExpr) (v : Named) (z : SetExpr) (at : ℕ) (r : TSet) → typed_set s vars content (se.MatchS x y v z at) ≡ Ok r
+pub MatchS_parts : (s : Schema) (vars : List Var) (content : Content) (x : Expr) (y : SetExpr) (v : Named) (z : SetExpr) (at : ℕ) (r : TSet) → typed_set s vars content (se.MatchS at x y v z) ≡ Ok r
     → (of : Typed) × (inside : TBase) × (none : TSet) × (inner : List Var) × (some : TSet)
     × (typed_expr s vars None x ≡ Ok of) × (option_of of.ty of.at ≡ Ok inside) × (typed_set s vars content y ≡ Ok none) × (under vars v (Plain inside) ≡ Ok inner) × (typed_set s inner content z ≡ Ok some) × (ts.MatchS of.tree none v.name some ≡ r)
 MatchS_parts s vars content x y v z at r h =
@@ -261,7 +261,7 @@ MatchS_parts s vars content x y v z at r h =
     let p4 = first_part (typed_set s p3.0 content z) rest4 r p3.2 in
     (p0.0, p1.0, p2.0, p3.0, p4.0, p0.1, p1.1, p2.1, p3.1, p4.1, ok_same (ts.MatchS p0.0.tree p2.0 v.name p4.0) r p4.2)
 
-pub Find_source_parts : (s : Schema) (vars : List Var) (model : Named) (fs : List Filter) (at : ℕ) (r : Source) → typed_source s vars (se.Find model fs at) ≡ Ok r
+pub Find_source_parts : (s : Schema) (vars : List Var) (model : Named) (fs : List Filter) (at : ℕ) (r : Source) → typed_source s vars (se.Find at model fs) ≡ Ok r
     → (m : ℕ) × (tests : List TFilter)
     × (or_else (model_named s model.name) (Unknown model.at) ≡ Ok m) × (typed_filters s vars m fs ≡ Ok tests) × (source model.at m (ts.Find m tests) ≡ r)
 Find_source_parts s vars model fs at r h =
@@ -271,7 +271,7 @@ Find_source_parts s vars model fs at r h =
     let p1 = first_part (typed_filters s vars p0.0 fs) rest1 r p0.2 in
     (p0.0, p1.0, p0.1, p1.1, ok_same (source model.at p0.0 (ts.Find p0.0 p1.0)) r p1.2)
 
-pub Path_source_parts : (s : Schema) (vars : List Var) (x : Expr) (at : ℕ) (r : Source) → typed_source s vars (se.Path x at) ≡ Ok r
+pub Path_source_parts : (s : Schema) (vars : List Var) (x : Expr) (at : ℕ) (r : Source) → typed_source s vars (se.Path at x) ≡ Ok r
     → (of : Typed) × (m : ℕ)
     × (typed_expr s vars None x ≡ Ok of) × (set_of_ids of.ty of.at ≡ Ok m) × (source of.at m (ts.Path m of.tree) ≡ r)
 Path_source_parts s vars x at r h =
@@ -281,7 +281,7 @@ Path_source_parts s vars x at r h =
     let p1 = first_part (set_of_ids p0.0.ty p0.0.at) rest1 r p0.2 in
     (p0.0, p1.0, p0.1, p1.1, ok_same (source p0.0.at p1.0 (ts.Path p1.0 p0.0.tree)) r p1.2)
 
-pub MapS_source_parts : (s : Schema) (vars : List Var) (x : SetExpr) (v : Named) (y : Expr) (at : ℕ) (r : Source) → typed_source s vars (se.MapS x v y at) ≡ Ok r
+pub MapS_source_parts : (s : Schema) (vars : List Var) (x : SetExpr) (v : Named) (y : Expr) (at : ℕ) (r : Source) → typed_source s vars (se.MapS at x v y) ≡ Ok r
     → (over : Source) × (inner : List Var) × (each : Typed) × (m : ℕ)
     × (typed_source s vars x ≡ Ok over) × (under vars v (Plain (base.Id over.model)) ≡ Ok inner) × (typed_expr s inner None y ≡ Ok each) × (id_of each.ty each.at ≡ Ok m) × (source over.at m (ts.MapS over.set over.model v.name m each.tree) ≡ r)
 MapS_source_parts s vars x v y at r h =

@@ -39,26 +39,26 @@ SetNobody_last s vars content at w r is done =
     same_gives (typed_set s vars content w) (Ok (ts.Nobody)) r
     ((ap (λ z. typed_set s vars content z) is ∙ form.Nobody_is s vars content at)) done
 
-pub SetEveryone_last : (s : Schema) (vars : List Var) (content : Content) (word at : ℕ) (w : SetExpr) (r : Checked TSet) → w ≡ se.Everyone word at → Gives (among_principals content word >>= (λ only. Ok (ts.Everyone))) r
+pub SetEveryone_last : (s : Schema) (vars : List Var) (content : Content) (word at : ℕ) (w : SetExpr) (r : Checked TSet) → w ≡ se.Everyone at word → Gives (among_principals content word >>= (λ only. Ok (ts.Everyone))) r
     → Gives (typed_set s vars content w) r
 SetEveryone_last s vars content word at w r is done =
     same_gives (typed_set s vars content w) (among_principals content word >>= (λ only. Ok (ts.Everyone))) r
     ((ap (λ z. typed_set s vars content z) is ∙ form.Everyone_is s vars content word at)) done
 
-pub SetSum_fault0 : (s : Schema) (vars : List Var) (content : Content) (x y : SetExpr) (at : ℕ) (w : SetExpr) (err : TypeErr) → w ≡ se.Sum x y at → (err ≢ OutOfMemory → typed_set s vars content x ≡ Err err)
+pub SetSum_fault0 : (s : Schema) (vars : List Var) (content : Content) (x y : SetExpr) (at : ℕ) (w : SetExpr) (err : TypeErr) → w ≡ se.Sum at x y → (err ≢ OutOfMemory → typed_set s vars content x ≡ Err err)
     → err ≢ OutOfMemory → typed_set s vars content w ≡ Err err
 SetSum_fault0 s vars content x y at w err is fault ne =
     (ap (λ z. typed_set s vars content z) is ∙ form.Sum_is s vars content x y at)
     ∙ stops (typed_set s vars content x) (λ left. (typed_set s vars content y >>= (λ right. Ok (ts.Sum left right)))) err (fault ne)
 
-pub SetSum_fault1 : (s : Schema) (vars : List Var) (content : Content) (x y : SetExpr) (at : ℕ) (w : SetExpr) (left : TSet) (err : TypeErr) → w ≡ se.Sum x y at → typed_set s vars content x ≡ Ok left → (err ≢ OutOfMemory → typed_set s vars content y ≡ Err err)
+pub SetSum_fault1 : (s : Schema) (vars : List Var) (content : Content) (x y : SetExpr) (at : ℕ) (w : SetExpr) (left : TSet) (err : TypeErr) → w ≡ se.Sum at x y → typed_set s vars content x ≡ Ok left → (err ≢ OutOfMemory → typed_set s vars content y ≡ Err err)
     → err ≢ OutOfMemory → typed_set s vars content w ≡ Err err
 SetSum_fault1 s vars content x y at w left err is found0 fault ne =
     (ap (λ z. typed_set s vars content z) is ∙ form.Sum_is s vars content x y at)
     ∙ goes_on (typed_set s vars content x) (λ left. (typed_set s vars content y >>= (λ right. Ok (ts.Sum left right)))) left found0
     ∙ stops (typed_set s vars content y) (λ right. Ok (ts.Sum left right)) err (fault ne)
 
-pub SetSum_last : (s : Schema) (vars : List Var) (content : Content) (x y : SetExpr) (at : ℕ) (w : SetExpr) (left : TSet) (right : TSet) (r : Checked TSet) → w ≡ se.Sum x y at → typed_set s vars content x ≡ Ok left → typed_set s vars content y ≡ Ok right → Gives (Ok (ts.Sum left right)) r
+pub SetSum_last : (s : Schema) (vars : List Var) (content : Content) (x y : SetExpr) (at : ℕ) (w : SetExpr) (left : TSet) (right : TSet) (r : Checked TSet) → w ≡ se.Sum at x y → typed_set s vars content x ≡ Ok left → typed_set s vars content y ≡ Ok right → Gives (Ok (ts.Sum left right)) r
     → Gives (typed_set s vars content w) r
 SetSum_last s vars content x y at w left right r is found0 found1 done =
     same_gives (typed_set s vars content w) (Ok (ts.Sum left right)) r
@@ -66,20 +66,20 @@ SetSum_last s vars content x y at w left right r is found0 found1 done =
     ∙ goes_on (typed_set s vars content x) (λ left. (typed_set s vars content y >>= (λ right. Ok (ts.Sum left right)))) left found0
     ∙ goes_on (typed_set s vars content y) (λ right. Ok (ts.Sum left right)) right found1) done
 
-pub SetLess_fault0 : (s : Schema) (vars : List Var) (content : Content) (x y : SetExpr) (at : ℕ) (w : SetExpr) (err : TypeErr) → w ≡ se.Less x y at → (err ≢ OutOfMemory → typed_set s vars content x ≡ Err err)
+pub SetLess_fault0 : (s : Schema) (vars : List Var) (content : Content) (x y : SetExpr) (at : ℕ) (w : SetExpr) (err : TypeErr) → w ≡ se.Less at x y → (err ≢ OutOfMemory → typed_set s vars content x ≡ Err err)
     → err ≢ OutOfMemory → typed_set s vars content w ≡ Err err
 SetLess_fault0 s vars content x y at w err is fault ne =
     (ap (λ z. typed_set s vars content z) is ∙ form.Less_is s vars content x y at)
     ∙ stops (typed_set s vars content x) (λ left. (typed_set s vars content y >>= (λ right. Ok (ts.Less left right)))) err (fault ne)
 
-pub SetLess_fault1 : (s : Schema) (vars : List Var) (content : Content) (x y : SetExpr) (at : ℕ) (w : SetExpr) (left : TSet) (err : TypeErr) → w ≡ se.Less x y at → typed_set s vars content x ≡ Ok left → (err ≢ OutOfMemory → typed_set s vars content y ≡ Err err)
+pub SetLess_fault1 : (s : Schema) (vars : List Var) (content : Content) (x y : SetExpr) (at : ℕ) (w : SetExpr) (left : TSet) (err : TypeErr) → w ≡ se.Less at x y → typed_set s vars content x ≡ Ok left → (err ≢ OutOfMemory → typed_set s vars content y ≡ Err err)
     → err ≢ OutOfMemory → typed_set s vars content w ≡ Err err
 SetLess_fault1 s vars content x y at w left err is found0 fault ne =
     (ap (λ z. typed_set s vars content z) is ∙ form.Less_is s vars content x y at)
     ∙ goes_on (typed_set s vars content x) (λ left. (typed_set s vars content y >>= (λ right. Ok (ts.Less left right)))) left found0
     ∙ stops (typed_set s vars content y) (λ right. Ok (ts.Less left right)) err (fault ne)
 
-pub SetLess_last : (s : Schema) (vars : List Var) (content : Content) (x y : SetExpr) (at : ℕ) (w : SetExpr) (left : TSet) (right : TSet) (r : Checked TSet) → w ≡ se.Less x y at → typed_set s vars content x ≡ Ok left → typed_set s vars content y ≡ Ok right → Gives (Ok (ts.Less left right)) r
+pub SetLess_last : (s : Schema) (vars : List Var) (content : Content) (x y : SetExpr) (at : ℕ) (w : SetExpr) (left : TSet) (right : TSet) (r : Checked TSet) → w ≡ se.Less at x y → typed_set s vars content x ≡ Ok left → typed_set s vars content y ≡ Ok right → Gives (Ok (ts.Less left right)) r
     → Gives (typed_set s vars content w) r
 SetLess_last s vars content x y at w left right r is found0 found1 done =
     same_gives (typed_set s vars content w) (Ok (ts.Less left right)) r
@@ -87,72 +87,72 @@ SetLess_last s vars content x y at w left right r is found0 found1 done =
     ∙ goes_on (typed_set s vars content x) (λ left. (typed_set s vars content y >>= (λ right. Ok (ts.Less left right)))) left found0
     ∙ goes_on (typed_set s vars content y) (λ right. Ok (ts.Less left right)) right found1) done
 
-pub SetList_fault0 : (s : Schema) (vars : List Var) (content : Content) (xs : List Item) (at : ℕ) (w : SetExpr) (err : TypeErr) → w ≡ se.List xs at → (err ≢ OutOfMemory → typed_items s vars content xs ≡ Err err)
+pub SetList_fault0 : (s : Schema) (vars : List Var) (content : Content) (xs : List Item) (at : ℕ) (w : SetExpr) (err : TypeErr) → w ≡ se.List at xs → (err ≢ OutOfMemory → typed_items s vars content xs ≡ Err err)
     → err ≢ OutOfMemory → typed_set s vars content w ≡ Err err
 SetList_fault0 s vars content xs at w err is fault ne =
     (ap (λ z. typed_set s vars content z) is ∙ form.List_is s vars content xs at)
     ∙ stops (typed_items s vars content xs) (λ all. Ok (ts.List all)) err (fault ne)
 
-pub SetList_last : (s : Schema) (vars : List Var) (content : Content) (xs : List Item) (at : ℕ) (w : SetExpr) (all : List TItem) (r : Checked TSet) → w ≡ se.List xs at → typed_items s vars content xs ≡ Ok all → Gives (Ok (ts.List all)) r
+pub SetList_last : (s : Schema) (vars : List Var) (content : Content) (xs : List Item) (at : ℕ) (w : SetExpr) (all : List TItem) (r : Checked TSet) → w ≡ se.List at xs → typed_items s vars content xs ≡ Ok all → Gives (Ok (ts.List all)) r
     → Gives (typed_set s vars content w) r
 SetList_last s vars content xs at w all r is found0 done =
     same_gives (typed_set s vars content w) (Ok (ts.List all)) r
     ((ap (λ z. typed_set s vars content z) is ∙ form.List_is s vars content xs at)
     ∙ goes_on (typed_items s vars content xs) (λ all. Ok (ts.List all)) all found0) done
 
-pub SetFind_fault0 : (s : Schema) (vars : List Var) (content : Content) (model : Named) (fs : List Filter) (at : ℕ) (w : SetExpr) (err : TypeErr) → w ≡ se.Find model fs at → (err ≢ OutOfMemory → typed_source s vars (se.Find model fs at) ≡ Err err)
+pub SetFind_fault0 : (s : Schema) (vars : List Var) (content : Content) (model : Named) (fs : List Filter) (at : ℕ) (w : SetExpr) (err : TypeErr) → w ≡ se.Find at model fs → (err ≢ OutOfMemory → typed_source s vars (se.Find at model fs) ≡ Err err)
     → err ≢ OutOfMemory → typed_set s vars content w ≡ Err err
 SetFind_fault0 s vars content model fs at w err is fault ne =
     (ap (λ z. typed_set s vars content z) is ∙ form.Find_is s vars content model fs at)
-    ∙ stops (typed_source s vars (se.Find model fs at)) (λ of. may_hold s content of.model of.at >>= (λ held. Ok (of.set))) err (fault ne)
+    ∙ stops (typed_source s vars (se.Find at model fs)) (λ of. may_hold s content of.model of.at >>= (λ held. Ok (of.set))) err (fault ne)
 
-pub SetFind_last : (s : Schema) (vars : List Var) (content : Content) (model : Named) (fs : List Filter) (at : ℕ) (w : SetExpr) (of : Source) (r : Checked TSet) → w ≡ se.Find model fs at → typed_source s vars (se.Find model fs at) ≡ Ok of → Gives (may_hold s content of.model of.at >>= (λ held. Ok (of.set))) r
+pub SetFind_last : (s : Schema) (vars : List Var) (content : Content) (model : Named) (fs : List Filter) (at : ℕ) (w : SetExpr) (of : Source) (r : Checked TSet) → w ≡ se.Find at model fs → typed_source s vars (se.Find at model fs) ≡ Ok of → Gives (may_hold s content of.model of.at >>= (λ held. Ok (of.set))) r
     → Gives (typed_set s vars content w) r
 SetFind_last s vars content model fs at w of r is found0 done =
     same_gives (typed_set s vars content w) (may_hold s content of.model of.at >>= (λ held. Ok (of.set))) r
     ((ap (λ z. typed_set s vars content z) is ∙ form.Find_is s vars content model fs at)
-    ∙ goes_on (typed_source s vars (se.Find model fs at)) (λ of. may_hold s content of.model of.at >>= (λ held. Ok (of.set))) of found0) done
+    ∙ goes_on (typed_source s vars (se.Find at model fs)) (λ of. may_hold s content of.model of.at >>= (λ held. Ok (of.set))) of found0) done
 
-pub SetPath_fault0 : (s : Schema) (vars : List Var) (content : Content) (x : Expr) (at : ℕ) (w : SetExpr) (err : TypeErr) → w ≡ se.Path x at → (err ≢ OutOfMemory → typed_source s vars (se.Path x at) ≡ Err err)
+pub SetPath_fault0 : (s : Schema) (vars : List Var) (content : Content) (x : Expr) (at : ℕ) (w : SetExpr) (err : TypeErr) → w ≡ se.Path at x → (err ≢ OutOfMemory → typed_source s vars (se.Path at x) ≡ Err err)
     → err ≢ OutOfMemory → typed_set s vars content w ≡ Err err
 SetPath_fault0 s vars content x at w err is fault ne =
     (ap (λ z. typed_set s vars content z) is ∙ form.Path_is s vars content x at)
-    ∙ stops (typed_source s vars (se.Path x at)) (λ of. may_hold s content of.model of.at >>= (λ held. Ok (of.set))) err (fault ne)
+    ∙ stops (typed_source s vars (se.Path at x)) (λ of. may_hold s content of.model of.at >>= (λ held. Ok (of.set))) err (fault ne)
 
-pub SetPath_last : (s : Schema) (vars : List Var) (content : Content) (x : Expr) (at : ℕ) (w : SetExpr) (of : Source) (r : Checked TSet) → w ≡ se.Path x at → typed_source s vars (se.Path x at) ≡ Ok of → Gives (may_hold s content of.model of.at >>= (λ held. Ok (of.set))) r
+pub SetPath_last : (s : Schema) (vars : List Var) (content : Content) (x : Expr) (at : ℕ) (w : SetExpr) (of : Source) (r : Checked TSet) → w ≡ se.Path at x → typed_source s vars (se.Path at x) ≡ Ok of → Gives (may_hold s content of.model of.at >>= (λ held. Ok (of.set))) r
     → Gives (typed_set s vars content w) r
 SetPath_last s vars content x at w of r is found0 done =
     same_gives (typed_set s vars content w) (may_hold s content of.model of.at >>= (λ held. Ok (of.set))) r
     ((ap (λ z. typed_set s vars content z) is ∙ form.Path_is s vars content x at)
-    ∙ goes_on (typed_source s vars (se.Path x at)) (λ of. may_hold s content of.model of.at >>= (λ held. Ok (of.set))) of found0) done
+    ∙ goes_on (typed_source s vars (se.Path at x)) (λ of. may_hold s content of.model of.at >>= (λ held. Ok (of.set))) of found0) done
 
-pub SetMapS_fault0 : (s : Schema) (vars : List Var) (content : Content) (x : SetExpr) (v : Named) (y : Expr) (at : ℕ) (w : SetExpr) (err : TypeErr) → w ≡ se.MapS x v y at → (err ≢ OutOfMemory → typed_source s vars (se.MapS x v y at) ≡ Err err)
+pub SetMapS_fault0 : (s : Schema) (vars : List Var) (content : Content) (x : SetExpr) (v : Named) (y : Expr) (at : ℕ) (w : SetExpr) (err : TypeErr) → w ≡ se.MapS at x v y → (err ≢ OutOfMemory → typed_source s vars (se.MapS at x v y) ≡ Err err)
     → err ≢ OutOfMemory → typed_set s vars content w ≡ Err err
 SetMapS_fault0 s vars content x v y at w err is fault ne =
     (ap (λ z. typed_set s vars content z) is ∙ form.MapS_is s vars content x v y at)
-    ∙ stops (typed_source s vars (se.MapS x v y at)) (λ of. may_hold s content of.model of.at >>= (λ held. Ok (of.set))) err (fault ne)
+    ∙ stops (typed_source s vars (se.MapS at x v y)) (λ of. may_hold s content of.model of.at >>= (λ held. Ok (of.set))) err (fault ne)
 
-pub SetMapS_last : (s : Schema) (vars : List Var) (content : Content) (x : SetExpr) (v : Named) (y : Expr) (at : ℕ) (w : SetExpr) (of : Source) (r : Checked TSet) → w ≡ se.MapS x v y at → typed_source s vars (se.MapS x v y at) ≡ Ok of → Gives (may_hold s content of.model of.at >>= (λ held. Ok (of.set))) r
+pub SetMapS_last : (s : Schema) (vars : List Var) (content : Content) (x : SetExpr) (v : Named) (y : Expr) (at : ℕ) (w : SetExpr) (of : Source) (r : Checked TSet) → w ≡ se.MapS at x v y → typed_source s vars (se.MapS at x v y) ≡ Ok of → Gives (may_hold s content of.model of.at >>= (λ held. Ok (of.set))) r
     → Gives (typed_set s vars content w) r
 SetMapS_last s vars content x v y at w of r is found0 done =
     same_gives (typed_set s vars content w) (may_hold s content of.model of.at >>= (λ held. Ok (of.set))) r
     ((ap (λ z. typed_set s vars content z) is ∙ form.MapS_is s vars content x v y at)
-    ∙ goes_on (typed_source s vars (se.MapS x v y at)) (λ of. may_hold s content of.model of.at >>= (λ held. Ok (of.set))) of found0) done
+    ∙ goes_on (typed_source s vars (se.MapS at x v y)) (λ of. may_hold s content of.model of.at >>= (λ held. Ok (of.set))) of found0) done
 
-pub SetFlatS_fault0 : (s : Schema) (vars : List Var) (content : Content) (x : SetExpr) (v : Named) (y : SetExpr) (at : ℕ) (w : SetExpr) (err : TypeErr) → w ≡ se.FlatS x v y at → (err ≢ OutOfMemory → typed_source s vars x ≡ Err err)
+pub SetFlatS_fault0 : (s : Schema) (vars : List Var) (content : Content) (x : SetExpr) (v : Named) (y : SetExpr) (at : ℕ) (w : SetExpr) (err : TypeErr) → w ≡ se.FlatS at x v y → (err ≢ OutOfMemory → typed_source s vars x ≡ Err err)
     → err ≢ OutOfMemory → typed_set s vars content w ≡ Err err
 SetFlatS_fault0 s vars content x v y at w err is fault ne =
     (ap (λ z. typed_set s vars content z) is ∙ form.FlatS_is s vars content x v y at)
     ∙ stops (typed_source s vars x) (λ over. (under vars v (Plain (base.Id over.model)) >>= (λ inner. (typed_set s inner content y >>= (λ each. Ok (ts.FlatS over.set over.model v.name each)))))) err (fault ne)
 
-pub SetFlatS_fault1 : (s : Schema) (vars : List Var) (content : Content) (x : SetExpr) (v : Named) (y : SetExpr) (at : ℕ) (w : SetExpr) (over : Source) (err : TypeErr) → w ≡ se.FlatS x v y at → typed_source s vars x ≡ Ok over → (err ≢ OutOfMemory → under vars v (Plain (base.Id over.model)) ≡ Err err)
+pub SetFlatS_fault1 : (s : Schema) (vars : List Var) (content : Content) (x : SetExpr) (v : Named) (y : SetExpr) (at : ℕ) (w : SetExpr) (over : Source) (err : TypeErr) → w ≡ se.FlatS at x v y → typed_source s vars x ≡ Ok over → (err ≢ OutOfMemory → under vars v (Plain (base.Id over.model)) ≡ Err err)
     → err ≢ OutOfMemory → typed_set s vars content w ≡ Err err
 SetFlatS_fault1 s vars content x v y at w over err is found0 fault ne =
     (ap (λ z. typed_set s vars content z) is ∙ form.FlatS_is s vars content x v y at)
     ∙ goes_on (typed_source s vars x) (λ over. (under vars v (Plain (base.Id over.model)) >>= (λ inner. (typed_set s inner content y >>= (λ each. Ok (ts.FlatS over.set over.model v.name each)))))) over found0
     ∙ stops (under vars v (Plain (base.Id over.model))) (λ inner. (typed_set s inner content y >>= (λ each. Ok (ts.FlatS over.set over.model v.name each)))) err (fault ne)
 
-pub SetFlatS_fault2 : (s : Schema) (vars : List Var) (content : Content) (x : SetExpr) (v : Named) (y : SetExpr) (at : ℕ) (w : SetExpr) (over : Source) (inner : List Var) (err : TypeErr) → w ≡ se.FlatS x v y at → typed_source s vars x ≡ Ok over → under vars v (Plain (base.Id over.model)) ≡ Ok inner → (err ≢ OutOfMemory → typed_set s inner content y ≡ Err err)
+pub SetFlatS_fault2 : (s : Schema) (vars : List Var) (content : Content) (x : SetExpr) (v : Named) (y : SetExpr) (at : ℕ) (w : SetExpr) (over : Source) (inner : List Var) (err : TypeErr) → w ≡ se.FlatS at x v y → typed_source s vars x ≡ Ok over → under vars v (Plain (base.Id over.model)) ≡ Ok inner → (err ≢ OutOfMemory → typed_set s inner content y ≡ Err err)
     → err ≢ OutOfMemory → typed_set s vars content w ≡ Err err
 SetFlatS_fault2 s vars content x v y at w over inner err is found0 found1 fault ne =
     (ap (λ z. typed_set s vars content z) is ∙ form.FlatS_is s vars content x v y at)
@@ -160,7 +160,7 @@ SetFlatS_fault2 s vars content x v y at w over inner err is found0 found1 fault 
     ∙ goes_on (under vars v (Plain (base.Id over.model))) (λ inner. (typed_set s inner content y >>= (λ each. Ok (ts.FlatS over.set over.model v.name each)))) inner found1
     ∙ stops (typed_set s inner content y) (λ each. Ok (ts.FlatS over.set over.model v.name each)) err (fault ne)
 
-pub SetFlatS_last : (s : Schema) (vars : List Var) (content : Content) (x : SetExpr) (v : Named) (y : SetExpr) (at : ℕ) (w : SetExpr) (over : Source) (inner : List Var) (each : TSet) (r : Checked TSet) → w ≡ se.FlatS x v y at → typed_source s vars x ≡ Ok over → under vars v (Plain (base.Id over.model)) ≡ Ok inner → typed_set s inner content y ≡ Ok each → Gives (Ok (ts.FlatS over.set over.model v.name each)) r
+pub SetFlatS_last : (s : Schema) (vars : List Var) (content : Content) (x : SetExpr) (v : Named) (y : SetExpr) (at : ℕ) (w : SetExpr) (over : Source) (inner : List Var) (each : TSet) (r : Checked TSet) → w ≡ se.FlatS at x v y → typed_source s vars x ≡ Ok over → under vars v (Plain (base.Id over.model)) ≡ Ok inner → typed_set s inner content y ≡ Ok each → Gives (Ok (ts.FlatS over.set over.model v.name each)) r
     → Gives (typed_set s vars content w) r
 SetFlatS_last s vars content x v y at w over inner each r is found0 found1 found2 done =
     same_gives (typed_set s vars content w) (Ok (ts.FlatS over.set over.model v.name each)) r
@@ -169,20 +169,20 @@ SetFlatS_last s vars content x v y at w over inner each r is found0 found1 found
     ∙ goes_on (under vars v (Plain (base.Id over.model))) (λ inner. (typed_set s inner content y >>= (λ each. Ok (ts.FlatS over.set over.model v.name each)))) inner found1
     ∙ goes_on (typed_set s inner content y) (λ each. Ok (ts.FlatS over.set over.model v.name each)) each found2) done
 
-pub SetIfS_fault0 : (s : Schema) (vars : List Var) (content : Content) (c : Expr) (x y : SetExpr) (at : ℕ) (w : SetExpr) (err : TypeErr) → w ≡ se.IfS c x y at → (err ≢ OutOfMemory → typed_expr s vars bool c ≡ Err err)
+pub SetIfS_fault0 : (s : Schema) (vars : List Var) (content : Content) (c : Expr) (x y : SetExpr) (at : ℕ) (w : SetExpr) (err : TypeErr) → w ≡ se.IfS at c x y → (err ≢ OutOfMemory → typed_expr s vars bool c ≡ Err err)
     → err ≢ OutOfMemory → typed_set s vars content w ≡ Err err
 SetIfS_fault0 s vars content c x y at w err is fault ne =
     (ap (λ z. typed_set s vars content z) is ∙ form.IfS_is s vars content c x y at)
     ∙ stops (typed_expr s vars bool c) (λ test. (typed_set s vars content x >>= (λ one. (typed_set s vars content y >>= (λ other. Ok (ts.IfS test.tree one other)))))) err (fault ne)
 
-pub SetIfS_fault1 : (s : Schema) (vars : List Var) (content : Content) (c : Expr) (x y : SetExpr) (at : ℕ) (w : SetExpr) (test : Typed) (err : TypeErr) → w ≡ se.IfS c x y at → typed_expr s vars bool c ≡ Ok test → (err ≢ OutOfMemory → typed_set s vars content x ≡ Err err)
+pub SetIfS_fault1 : (s : Schema) (vars : List Var) (content : Content) (c : Expr) (x y : SetExpr) (at : ℕ) (w : SetExpr) (test : Typed) (err : TypeErr) → w ≡ se.IfS at c x y → typed_expr s vars bool c ≡ Ok test → (err ≢ OutOfMemory → typed_set s vars content x ≡ Err err)
     → err ≢ OutOfMemory → typed_set s vars content w ≡ Err err
 SetIfS_fault1 s vars content c x y at w test err is found0 fault ne =
     (ap (λ z. typed_set s vars content z) is ∙ form.IfS_is s vars content c x y at)
     ∙ goes_on (typed_expr s vars bool c) (λ test. (typed_set s vars content x >>= (λ one. (typed_set s vars content y >>= (λ other. Ok (ts.IfS test.tree one other)))))) test found0
     ∙ stops (typed_set s vars content x) (λ one. (typed_set s vars content y >>= (λ other. Ok (ts.IfS test.tree one other)))) err (fault ne)
 
-pub SetIfS_fault2 : (s : Schema) (vars : List Var) (content : Content) (c : Expr) (x y : SetExpr) (at : ℕ) (w : SetExpr) (test : Typed) (one : TSet) (err : TypeErr) → w ≡ se.IfS c x y at → typed_expr s vars bool c ≡ Ok test → typed_set s vars content x ≡ Ok one → (err ≢ OutOfMemory → typed_set s vars content y ≡ Err err)
+pub SetIfS_fault2 : (s : Schema) (vars : List Var) (content : Content) (c : Expr) (x y : SetExpr) (at : ℕ) (w : SetExpr) (test : Typed) (one : TSet) (err : TypeErr) → w ≡ se.IfS at c x y → typed_expr s vars bool c ≡ Ok test → typed_set s vars content x ≡ Ok one → (err ≢ OutOfMemory → typed_set s vars content y ≡ Err err)
     → err ≢ OutOfMemory → typed_set s vars content w ≡ Err err
 SetIfS_fault2 s vars content c x y at w test one err is found0 found1 fault ne =
     (ap (λ z. typed_set s vars content z) is ∙ form.IfS_is s vars content c x y at)
@@ -190,7 +190,7 @@ SetIfS_fault2 s vars content c x y at w test one err is found0 found1 fault ne =
     ∙ goes_on (typed_set s vars content x) (λ one. (typed_set s vars content y >>= (λ other. Ok (ts.IfS test.tree one other)))) one found1
     ∙ stops (typed_set s vars content y) (λ other. Ok (ts.IfS test.tree one other)) err (fault ne)
 
-pub SetIfS_last : (s : Schema) (vars : List Var) (content : Content) (c : Expr) (x y : SetExpr) (at : ℕ) (w : SetExpr) (test : Typed) (one : TSet) (other : TSet) (r : Checked TSet) → w ≡ se.IfS c x y at → typed_expr s vars bool c ≡ Ok test → typed_set s vars content x ≡ Ok one → typed_set s vars content y ≡ Ok other → Gives (Ok (ts.IfS test.tree one other)) r
+pub SetIfS_last : (s : Schema) (vars : List Var) (content : Content) (c : Expr) (x y : SetExpr) (at : ℕ) (w : SetExpr) (test : Typed) (one : TSet) (other : TSet) (r : Checked TSet) → w ≡ se.IfS at c x y → typed_expr s vars bool c ≡ Ok test → typed_set s vars content x ≡ Ok one → typed_set s vars content y ≡ Ok other → Gives (Ok (ts.IfS test.tree one other)) r
     → Gives (typed_set s vars content w) r
 SetIfS_last s vars content c x y at w test one other r is found0 found1 found2 done =
     same_gives (typed_set s vars content w) (Ok (ts.IfS test.tree one other)) r
@@ -199,20 +199,20 @@ SetIfS_last s vars content c x y at w test one other r is found0 found1 found2 d
     ∙ goes_on (typed_set s vars content x) (λ one. (typed_set s vars content y >>= (λ other. Ok (ts.IfS test.tree one other)))) one found1
     ∙ goes_on (typed_set s vars content y) (λ other. Ok (ts.IfS test.tree one other)) other found2) done
 
-pub SetMatchS_fault0 : (s : Schema) (vars : List Var) (content : Content) (x : Expr) (y : SetExpr) (v : Named) (z : SetExpr) (at : ℕ) (w : SetExpr) (err : TypeErr) → w ≡ se.MatchS x y v z at → (err ≢ OutOfMemory → typed_expr s vars None x ≡ Err err)
+pub SetMatchS_fault0 : (s : Schema) (vars : List Var) (content : Content) (x : Expr) (y : SetExpr) (v : Named) (z : SetExpr) (at : ℕ) (w : SetExpr) (err : TypeErr) → w ≡ se.MatchS at x y v z → (err ≢ OutOfMemory → typed_expr s vars None x ≡ Err err)
     → err ≢ OutOfMemory → typed_set s vars content w ≡ Err err
 SetMatchS_fault0 s vars content x y v z at w err is fault ne =
     (ap (λ z. typed_set s vars content z) is ∙ form.MatchS_is s vars content x y v z at)
     ∙ stops (typed_expr s vars None x) (λ of. (option_of of.ty of.at >>= (λ inside. (typed_set s vars content y >>= (λ none. (under vars v (Plain inside) >>= (λ inner. (typed_set s inner content z >>= (λ some. Ok (ts.MatchS of.tree none v.name some)))))))))) err (fault ne)
 
-pub SetMatchS_fault1 : (s : Schema) (vars : List Var) (content : Content) (x : Expr) (y : SetExpr) (v : Named) (z : SetExpr) (at : ℕ) (w : SetExpr) (of : Typed) (err : TypeErr) → w ≡ se.MatchS x y v z at → typed_expr s vars None x ≡ Ok of → (err ≢ OutOfMemory → option_of of.ty of.at ≡ Err err)
+pub SetMatchS_fault1 : (s : Schema) (vars : List Var) (content : Content) (x : Expr) (y : SetExpr) (v : Named) (z : SetExpr) (at : ℕ) (w : SetExpr) (of : Typed) (err : TypeErr) → w ≡ se.MatchS at x y v z → typed_expr s vars None x ≡ Ok of → (err ≢ OutOfMemory → option_of of.ty of.at ≡ Err err)
     → err ≢ OutOfMemory → typed_set s vars content w ≡ Err err
 SetMatchS_fault1 s vars content x y v z at w of err is found0 fault ne =
     (ap (λ z. typed_set s vars content z) is ∙ form.MatchS_is s vars content x y v z at)
     ∙ goes_on (typed_expr s vars None x) (λ of. (option_of of.ty of.at >>= (λ inside. (typed_set s vars content y >>= (λ none. (under vars v (Plain inside) >>= (λ inner. (typed_set s inner content z >>= (λ some. Ok (ts.MatchS of.tree none v.name some)))))))))) of found0
     ∙ stops (option_of of.ty of.at) (λ inside. (typed_set s vars content y >>= (λ none. (under vars v (Plain inside) >>= (λ inner. (typed_set s inner content z >>= (λ some. Ok (ts.MatchS of.tree none v.name some)))))))) err (fault ne)
 
-pub SetMatchS_fault2 : (s : Schema) (vars : List Var) (content : Content) (x : Expr) (y : SetExpr) (v : Named) (z : SetExpr) (at : ℕ) (w : SetExpr) (of : Typed) (inside : TBase) (err : TypeErr) → w ≡ se.MatchS x y v z at → typed_expr s vars None x ≡ Ok of → option_of of.ty of.at ≡ Ok inside → (err ≢ OutOfMemory → typed_set s vars content y ≡ Err err)
+pub SetMatchS_fault2 : (s : Schema) (vars : List Var) (content : Content) (x : Expr) (y : SetExpr) (v : Named) (z : SetExpr) (at : ℕ) (w : SetExpr) (of : Typed) (inside : TBase) (err : TypeErr) → w ≡ se.MatchS at x y v z → typed_expr s vars None x ≡ Ok of → option_of of.ty of.at ≡ Ok inside → (err ≢ OutOfMemory → typed_set s vars content y ≡ Err err)
     → err ≢ OutOfMemory → typed_set s vars content w ≡ Err err
 SetMatchS_fault2 s vars content x y v z at w of inside err is found0 found1 fault ne =
     (ap (λ z. typed_set s vars content z) is ∙ form.MatchS_is s vars content x y v z at)
@@ -220,7 +220,7 @@ SetMatchS_fault2 s vars content x y v z at w of inside err is found0 found1 faul
     ∙ goes_on (option_of of.ty of.at) (λ inside. (typed_set s vars content y >>= (λ none. (under vars v (Plain inside) >>= (λ inner. (typed_set s inner content z >>= (λ some. Ok (ts.MatchS of.tree none v.name some)))))))) inside found1
     ∙ stops (typed_set s vars content y) (λ none. (under vars v (Plain inside) >>= (λ inner. (typed_set s inner content z >>= (λ some. Ok (ts.MatchS of.tree none v.name some)))))) err (fault ne)
 
-pub SetMatchS_fault3 : (s : Schema) (vars : List Var) (content : Content) (x : Expr) (y : SetExpr) (v : Named) (z : SetExpr) (at : ℕ) (w : SetExpr) (of : Typed) (inside : TBase) (none : TSet) (err : TypeErr) → w ≡ se.MatchS x y v z at → typed_expr s vars None x ≡ Ok of → option_of of.ty of.at ≡ Ok inside → typed_set s vars content y ≡ Ok none → (err ≢ OutOfMemory → under vars v (Plain inside) ≡ Err err)
+pub SetMatchS_fault3 : (s : Schema) (vars : List Var) (content : Content) (x : Expr) (y : SetExpr) (v : Named) (z : SetExpr) (at : ℕ) (w : SetExpr) (of : Typed) (inside : TBase) (none : TSet) (err : TypeErr) → w ≡ se.MatchS at x y v z → typed_expr s vars None x ≡ Ok of → option_of of.ty of.at ≡ Ok inside → typed_set s vars content y ≡ Ok none → (err ≢ OutOfMemory → under vars v (Plain inside) ≡ Err err)
     → err ≢ OutOfMemory → typed_set s vars content w ≡ Err err
 SetMatchS_fault3 s vars content x y v z at w of inside none err is found0 found1 found2 fault ne =
     (ap (λ z. typed_set s vars content z) is ∙ form.MatchS_is s vars content x y v z at)
@@ -229,7 +229,7 @@ SetMatchS_fault3 s vars content x y v z at w of inside none err is found0 found1
     ∙ goes_on (typed_set s vars content y) (λ none. (under vars v (Plain inside) >>= (λ inner. (typed_set s inner content z >>= (λ some. Ok (ts.MatchS of.tree none v.name some)))))) none found2
     ∙ stops (under vars v (Plain inside)) (λ inner. (typed_set s inner content z >>= (λ some. Ok (ts.MatchS of.tree none v.name some)))) err (fault ne)
 
-pub SetMatchS_fault4 : (s : Schema) (vars : List Var) (content : Content) (x : Expr) (y : SetExpr) (v : Named) (z : SetExpr) (at : ℕ) (w : SetExpr) (of : Typed) (inside : TBase) (none : TSet) (inner : List Var) (err : TypeErr) → w ≡ se.MatchS x y v z at → typed_expr s vars None x ≡ Ok of → option_of of.ty of.at ≡ Ok inside → typed_set s vars content y ≡ Ok none → under vars v (Plain inside) ≡ Ok inner → (err ≢ OutOfMemory → typed_set s inner content z ≡ Err err)
+pub SetMatchS_fault4 : (s : Schema) (vars : List Var) (content : Content) (x : Expr) (y : SetExpr) (v : Named) (z : SetExpr) (at : ℕ) (w : SetExpr) (of : Typed) (inside : TBase) (none : TSet) (inner : List Var) (err : TypeErr) → w ≡ se.MatchS at x y v z → typed_expr s vars None x ≡ Ok of → option_of of.ty of.at ≡ Ok inside → typed_set s vars content y ≡ Ok none → under vars v (Plain inside) ≡ Ok inner → (err ≢ OutOfMemory → typed_set s inner content z ≡ Err err)
     → err ≢ OutOfMemory → typed_set s vars content w ≡ Err err
 SetMatchS_fault4 s vars content x y v z at w of inside none inner err is found0 found1 found2 found3 fault ne =
     (ap (λ z. typed_set s vars content z) is ∙ form.MatchS_is s vars content x y v z at)
@@ -239,7 +239,7 @@ SetMatchS_fault4 s vars content x y v z at w of inside none inner err is found0 
     ∙ goes_on (under vars v (Plain inside)) (λ inner. (typed_set s inner content z >>= (λ some. Ok (ts.MatchS of.tree none v.name some)))) inner found3
     ∙ stops (typed_set s inner content z) (λ some. Ok (ts.MatchS of.tree none v.name some)) err (fault ne)
 
-pub SetMatchS_last : (s : Schema) (vars : List Var) (content : Content) (x : Expr) (y : SetExpr) (v : Named) (z : SetExpr) (at : ℕ) (w : SetExpr) (of : Typed) (inside : TBase) (none : TSet) (inner : List Var) (some : TSet) (r : Checked TSet) → w ≡ se.MatchS x y v z at → typed_expr s vars None x ≡ Ok of → option_of of.ty of.at ≡ Ok inside → typed_set s vars content y ≡ Ok none → under vars v (Plain inside) ≡ Ok inner → typed_set s inner content z ≡ Ok some → Gives (Ok (ts.MatchS of.tree none v.name some)) r
+pub SetMatchS_last : (s : Schema) (vars : List Var) (content : Content) (x : Expr) (y : SetExpr) (v : Named) (z : SetExpr) (at : ℕ) (w : SetExpr) (of : Typed) (inside : TBase) (none : TSet) (inner : List Var) (some : TSet) (r : Checked TSet) → w ≡ se.MatchS at x y v z → typed_expr s vars None x ≡ Ok of → option_of of.ty of.at ≡ Ok inside → typed_set s vars content y ≡ Ok none → under vars v (Plain inside) ≡ Ok inner → typed_set s inner content z ≡ Ok some → Gives (Ok (ts.MatchS of.tree none v.name some)) r
     → Gives (typed_set s vars content w) r
 SetMatchS_last s vars content x y v z at w of inside none inner some r is found0 found1 found2 found3 found4 done =
     same_gives (typed_set s vars content w) (Ok (ts.MatchS of.tree none v.name some)) r
@@ -250,20 +250,20 @@ SetMatchS_last s vars content x y v z at w of inside none inner some r is found0
     ∙ goes_on (under vars v (Plain inside)) (λ inner. (typed_set s inner content z >>= (λ some. Ok (ts.MatchS of.tree none v.name some)))) inner found3
     ∙ goes_on (typed_set s inner content z) (λ some. Ok (ts.MatchS of.tree none v.name some)) some found4) done
 
-pub SourceFind_fault0 : (s : Schema) (vars : List Var) (model : Named) (fs : List Filter) (at : ℕ) (w : SetExpr) (err : TypeErr) → w ≡ se.Find model fs at → (err ≢ OutOfMemory → or_else (model_named s model.name) (Unknown model.at) ≡ Err err)
+pub SourceFind_fault0 : (s : Schema) (vars : List Var) (model : Named) (fs : List Filter) (at : ℕ) (w : SetExpr) (err : TypeErr) → w ≡ se.Find at model fs → (err ≢ OutOfMemory → or_else (model_named s model.name) (Unknown model.at) ≡ Err err)
     → err ≢ OutOfMemory → typed_source s vars w ≡ Err err
 SourceFind_fault0 s vars model fs at w err is fault ne =
     (ap (λ z. typed_source s vars z) is ∙ form.Find_source s vars model fs at)
     ∙ stops (or_else (model_named s model.name) (Unknown model.at)) (λ m. (typed_filters s vars m fs >>= (λ tests. Ok (source model.at m (ts.Find m tests))))) err (fault ne)
 
-pub SourceFind_fault1 : (s : Schema) (vars : List Var) (model : Named) (fs : List Filter) (at : ℕ) (w : SetExpr) (m : ℕ) (err : TypeErr) → w ≡ se.Find model fs at → or_else (model_named s model.name) (Unknown model.at) ≡ Ok m → (err ≢ OutOfMemory → typed_filters s vars m fs ≡ Err err)
+pub SourceFind_fault1 : (s : Schema) (vars : List Var) (model : Named) (fs : List Filter) (at : ℕ) (w : SetExpr) (m : ℕ) (err : TypeErr) → w ≡ se.Find at model fs → or_else (model_named s model.name) (Unknown model.at) ≡ Ok m → (err ≢ OutOfMemory → typed_filters s vars m fs ≡ Err err)
     → err ≢ OutOfMemory → typed_source s vars w ≡ Err err
 SourceFind_fault1 s vars model fs at w m err is found0 fault ne =
     (ap (λ z. typed_source s vars z) is ∙ form.Find_source s vars model fs at)
     ∙ goes_on (or_else (model_named s model.name) (Unknown model.at)) (λ m. (typed_filters s vars m fs >>= (λ tests. Ok (source model.at m (ts.Find m tests))))) m found0
     ∙ stops (typed_filters s vars m fs) (λ tests. Ok (source model.at m (ts.Find m tests))) err (fault ne)
 
-pub SourceFind_last : (s : Schema) (vars : List Var) (model : Named) (fs : List Filter) (at : ℕ) (w : SetExpr) (m : ℕ) (tests : List TFilter) (r : Checked Source) → w ≡ se.Find model fs at → or_else (model_named s model.name) (Unknown model.at) ≡ Ok m → typed_filters s vars m fs ≡ Ok tests → Gives (Ok (source model.at m (ts.Find m tests))) r
+pub SourceFind_last : (s : Schema) (vars : List Var) (model : Named) (fs : List Filter) (at : ℕ) (w : SetExpr) (m : ℕ) (tests : List TFilter) (r : Checked Source) → w ≡ se.Find at model fs → or_else (model_named s model.name) (Unknown model.at) ≡ Ok m → typed_filters s vars m fs ≡ Ok tests → Gives (Ok (source model.at m (ts.Find m tests))) r
     → Gives (typed_source s vars w) r
 SourceFind_last s vars model fs at w m tests r is found0 found1 done =
     same_gives (typed_source s vars w) (Ok (source model.at m (ts.Find m tests))) r
@@ -271,33 +271,33 @@ SourceFind_last s vars model fs at w m tests r is found0 found1 done =
     ∙ goes_on (or_else (model_named s model.name) (Unknown model.at)) (λ m. (typed_filters s vars m fs >>= (λ tests. Ok (source model.at m (ts.Find m tests))))) m found0
     ∙ goes_on (typed_filters s vars m fs) (λ tests. Ok (source model.at m (ts.Find m tests))) tests found1) done
 
-pub SourcePath_fault0 : (s : Schema) (vars : List Var) (x : Expr) (at : ℕ) (w : SetExpr) (err : TypeErr) → w ≡ se.Path x at → (err ≢ OutOfMemory → typed_expr s vars None x ≡ Err err)
+pub SourcePath_fault0 : (s : Schema) (vars : List Var) (x : Expr) (at : ℕ) (w : SetExpr) (err : TypeErr) → w ≡ se.Path at x → (err ≢ OutOfMemory → typed_expr s vars None x ≡ Err err)
     → err ≢ OutOfMemory → typed_source s vars w ≡ Err err
 SourcePath_fault0 s vars x at w err is fault ne =
     (ap (λ z. typed_source s vars z) is ∙ form.Path_source s vars x at)
     ∙ stops (typed_expr s vars None x) (λ of. set_of_ids of.ty of.at >>= (λ m. Ok (source of.at m (ts.Path m of.tree)))) err (fault ne)
 
-pub SourcePath_last : (s : Schema) (vars : List Var) (x : Expr) (at : ℕ) (w : SetExpr) (of : Typed) (r : Checked Source) → w ≡ se.Path x at → typed_expr s vars None x ≡ Ok of → Gives (set_of_ids of.ty of.at >>= (λ m. Ok (source of.at m (ts.Path m of.tree)))) r
+pub SourcePath_last : (s : Schema) (vars : List Var) (x : Expr) (at : ℕ) (w : SetExpr) (of : Typed) (r : Checked Source) → w ≡ se.Path at x → typed_expr s vars None x ≡ Ok of → Gives (set_of_ids of.ty of.at >>= (λ m. Ok (source of.at m (ts.Path m of.tree)))) r
     → Gives (typed_source s vars w) r
 SourcePath_last s vars x at w of r is found0 done =
     same_gives (typed_source s vars w) (set_of_ids of.ty of.at >>= (λ m. Ok (source of.at m (ts.Path m of.tree)))) r
     ((ap (λ z. typed_source s vars z) is ∙ form.Path_source s vars x at)
     ∙ goes_on (typed_expr s vars None x) (λ of. set_of_ids of.ty of.at >>= (λ m. Ok (source of.at m (ts.Path m of.tree)))) of found0) done
 
-pub SourceMapS_fault0 : (s : Schema) (vars : List Var) (x : SetExpr) (v : Named) (y : Expr) (at : ℕ) (w : SetExpr) (err : TypeErr) → w ≡ se.MapS x v y at → (err ≢ OutOfMemory → typed_source s vars x ≡ Err err)
+pub SourceMapS_fault0 : (s : Schema) (vars : List Var) (x : SetExpr) (v : Named) (y : Expr) (at : ℕ) (w : SetExpr) (err : TypeErr) → w ≡ se.MapS at x v y → (err ≢ OutOfMemory → typed_source s vars x ≡ Err err)
     → err ≢ OutOfMemory → typed_source s vars w ≡ Err err
 SourceMapS_fault0 s vars x v y at w err is fault ne =
     (ap (λ z. typed_source s vars z) is ∙ form.MapS_source s vars x v y at)
     ∙ stops (typed_source s vars x) (λ over. (under vars v (Plain (base.Id over.model)) >>= (λ inner. (typed_expr s inner None y >>= (λ each. id_of each.ty each.at >>= (λ m. Ok (source over.at m (ts.MapS over.set over.model v.name m each.tree)))))))) err (fault ne)
 
-pub SourceMapS_fault1 : (s : Schema) (vars : List Var) (x : SetExpr) (v : Named) (y : Expr) (at : ℕ) (w : SetExpr) (over : Source) (err : TypeErr) → w ≡ se.MapS x v y at → typed_source s vars x ≡ Ok over → (err ≢ OutOfMemory → under vars v (Plain (base.Id over.model)) ≡ Err err)
+pub SourceMapS_fault1 : (s : Schema) (vars : List Var) (x : SetExpr) (v : Named) (y : Expr) (at : ℕ) (w : SetExpr) (over : Source) (err : TypeErr) → w ≡ se.MapS at x v y → typed_source s vars x ≡ Ok over → (err ≢ OutOfMemory → under vars v (Plain (base.Id over.model)) ≡ Err err)
     → err ≢ OutOfMemory → typed_source s vars w ≡ Err err
 SourceMapS_fault1 s vars x v y at w over err is found0 fault ne =
     (ap (λ z. typed_source s vars z) is ∙ form.MapS_source s vars x v y at)
     ∙ goes_on (typed_source s vars x) (λ over. (under vars v (Plain (base.Id over.model)) >>= (λ inner. (typed_expr s inner None y >>= (λ each. id_of each.ty each.at >>= (λ m. Ok (source over.at m (ts.MapS over.set over.model v.name m each.tree)))))))) over found0
     ∙ stops (under vars v (Plain (base.Id over.model))) (λ inner. (typed_expr s inner None y >>= (λ each. id_of each.ty each.at >>= (λ m. Ok (source over.at m (ts.MapS over.set over.model v.name m each.tree)))))) err (fault ne)
 
-pub SourceMapS_fault2 : (s : Schema) (vars : List Var) (x : SetExpr) (v : Named) (y : Expr) (at : ℕ) (w : SetExpr) (over : Source) (inner : List Var) (err : TypeErr) → w ≡ se.MapS x v y at → typed_source s vars x ≡ Ok over → under vars v (Plain (base.Id over.model)) ≡ Ok inner → (err ≢ OutOfMemory → typed_expr s inner None y ≡ Err err)
+pub SourceMapS_fault2 : (s : Schema) (vars : List Var) (x : SetExpr) (v : Named) (y : Expr) (at : ℕ) (w : SetExpr) (over : Source) (inner : List Var) (err : TypeErr) → w ≡ se.MapS at x v y → typed_source s vars x ≡ Ok over → under vars v (Plain (base.Id over.model)) ≡ Ok inner → (err ≢ OutOfMemory → typed_expr s inner None y ≡ Err err)
     → err ≢ OutOfMemory → typed_source s vars w ≡ Err err
 SourceMapS_fault2 s vars x v y at w over inner err is found0 found1 fault ne =
     (ap (λ z. typed_source s vars z) is ∙ form.MapS_source s vars x v y at)
@@ -305,7 +305,7 @@ SourceMapS_fault2 s vars x v y at w over inner err is found0 found1 fault ne =
     ∙ goes_on (under vars v (Plain (base.Id over.model))) (λ inner. (typed_expr s inner None y >>= (λ each. id_of each.ty each.at >>= (λ m. Ok (source over.at m (ts.MapS over.set over.model v.name m each.tree)))))) inner found1
     ∙ stops (typed_expr s inner None y) (λ each. id_of each.ty each.at >>= (λ m. Ok (source over.at m (ts.MapS over.set over.model v.name m each.tree)))) err (fault ne)
 
-pub SourceMapS_last : (s : Schema) (vars : List Var) (x : SetExpr) (v : Named) (y : Expr) (at : ℕ) (w : SetExpr) (over : Source) (inner : List Var) (each : Typed) (r : Checked Source) → w ≡ se.MapS x v y at → typed_source s vars x ≡ Ok over → under vars v (Plain (base.Id over.model)) ≡ Ok inner → typed_expr s inner None y ≡ Ok each → Gives (id_of each.ty each.at >>= (λ m. Ok (source over.at m (ts.MapS over.set over.model v.name m each.tree)))) r
+pub SourceMapS_last : (s : Schema) (vars : List Var) (x : SetExpr) (v : Named) (y : Expr) (at : ℕ) (w : SetExpr) (over : Source) (inner : List Var) (each : Typed) (r : Checked Source) → w ≡ se.MapS at x v y → typed_source s vars x ≡ Ok over → under vars v (Plain (base.Id over.model)) ≡ Ok inner → typed_expr s inner None y ≡ Ok each → Gives (id_of each.ty each.at >>= (λ m. Ok (source over.at m (ts.MapS over.set over.model v.name m each.tree)))) r
     → Gives (typed_source s vars w) r
 SourceMapS_last s vars x v y at w over inner each r is found0 found1 found2 done =
     same_gives (typed_source s vars w) (id_of each.ty each.at >>= (λ m. Ok (source over.at m (ts.MapS over.set over.model v.name m each.tree)))) r

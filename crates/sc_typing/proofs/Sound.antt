@@ -79,23 +79,23 @@ module _ (s : Schema) (fields : HaveFields s) where
   set_type : (ty : TTy) (m : ℕ) → IsType s ty → ty ≡ Set m → HasModel s m
   set_type ty m ok e = subst (λ z. IsType s z) e ok
 
-  Flag_good : (value : Bool) (at : ℕ) → ExprGood s (e.Flag value at)
+  Flag_good : (value : Bool) (at : ℕ) → ExprGood s (e.Flag at value)
   Flag_good value at vars ok asked is r h lit =
       fitted s vars asked at (Plain base.Bool) (t.Flag value) (flag value) r (seen.Flag_seen value) (sym (form.Flag_is s vars asked value at) ∙ h) refl tt
 
-  Num_good : (value : ℤ) (at : ℕ) → ExprGood s (e.Num value at)
+  Num_good : (value : ℤ) (at : ℕ) → ExprGood s (e.Num at value)
   Num_good value at vars ok asked is r h lit =
       let there = sym (form.Num_is s vars asked value at) ∙ h in
       fitted s vars asked at (Plain base.Int) (t.Num value) (num value) r (seen.Num_seen value) there
       (refl, literals_of asked at (Plain base.Int) (t.Num value) (num value) r (seen.Num_seen value) there lit) tt
 
-  Str_good : (text : List ℕ) (at : ℕ) → ExprGood s (e.Str text at)
+  Str_good : (text : List ℕ) (at : ℕ) → ExprGood s (e.Str at text)
   Str_good text at vars ok asked is r h lit =
       let there = sym (form.Str_is s vars asked text at) ∙ h in
       fitted s vars asked at (Plain base.Text) (t.Str text) (str text) r (seen.Str_seen text) there
       (refl, literals_of asked at (Plain base.Text) (t.Str text) (str text) r (seen.Str_seen text) there lit) tt
 
-  Var_good : (x : Named) (at : ℕ) → ExprGood s (e.Var x at)
+  Var_good : (x : Named) (at : ℕ) → ExprGood s (e.Var at x)
   Var_good x at vars ok asked is r h lit =
       let k = part.Var_parts s vars asked x at r h in
       let there = var_is s vars x.name k.0 ok (known (var_named vars x.name) (Unknown x.at) k.0 k.1) in
@@ -120,7 +120,7 @@ module _ (s : Schema) (fields : HaveFields s) where
   inner_is (Some (Set m)) is = tt
   inner_is (Some (Opt b)) is = is
 
-  SomeLit_good : (x : tree.Expr) (at : ℕ) → ExprGood s x → ExprGood s (e.SomeLit x at)
+  SomeLit_good : (x : tree.Expr) (at : ℕ) → ExprGood s x → ExprGood s (e.SomeLit at x)
   SomeLit_good x at gx vars ok asked is r h lit =
       let k = part.SomeLit_parts s vars asked x at r h in
       let saw = seen.SomeLit_seen k.0.tree in
@@ -130,7 +130,7 @@ module _ (s : Schema) (fields : HaveFields s) where
       let there : IsType s (Plain k.1) = subst (λ z. IsType s z) e a.type in
       fitted s vars asked at (Opt k.1) (t.SomeLit k.0.tree) (just (expr_of k.0.tree)) r saw k.4 (k.1, refl, of_this s vars (inner_asked asked) (Plain k.1) k.0 a e) there
 
-  Get_good : (x : tree.Expr) (f : Named) (at : ℕ) → ExprGood s x → ExprGood s (e.Get x f at)
+  Get_good : (x : tree.Expr) (f : Named) (at : ℕ) → ExprGood s x → ExprGood s (e.Get at x f)
   Get_good x f at gx vars ok asked is r h lit =
       let k = part.Get_parts s vars asked x f at r h in
       let saw = seen.Get_seen k.0.tree k.1.0 k.1.1 in
@@ -149,7 +149,7 @@ module _ (s : Schema) (fields : HaveFields s) where
   left_is Gt = tt
   left_is Ge = tt
 
-  Cmp_good : (op : CmpOp) (x y : tree.Expr) (at : ℕ) → ExprGood s x → ExprGood s y → ExprGood s (e.Cmp op x y at)
+  Cmp_good : (op : CmpOp) (x y : tree.Expr) (at : ℕ) → ExprGood s x → ExprGood s y → ExprGood s (e.Cmp at op x y)
   Cmp_good op x y at gx gy vars ok asked is r h lit =
       let k = part.Cmp_parts s vars asked op x y at r h in
       let whole : TExpr = compared op k.1 k.0.tree k.2.tree in
@@ -161,7 +161,7 @@ module _ (s : Schema) (fields : HaveFields s) where
       fitted s vars asked at (Plain base.Bool) whole (expr_of whole) r refl k.6
       (compared_good s vars op k.1 k.0.tree k.2.tree (ordered_left s vars op k.1 k.0 a e) (of_this s vars (left_asked op) (Plain k.1) k.0 a e) right) tt
 
-  Member_good : (x : tree.Expr) (set : tree_set.SetExpr) (at : ℕ) → ExprGood s x → SetGood s set → ExprGood s (e.Member x set at)
+  Member_good : (x : tree.Expr) (set : tree_set.SetExpr) (at : ℕ) → ExprGood s x → SetGood s set → ExprGood s (e.Member at x set)
   Member_good x set at gx gset vars ok asked is r h lit =
       let k = part.Member_parts s vars asked x set at r h in
       let saw = seen.Member_seen k.0.tree k.1 k.2 in
@@ -172,7 +172,7 @@ module _ (s : Schema) (fields : HaveFields s) where
       fitted s vars asked at (Plain base.Bool) (t.Member k.0.tree k.1 k.2) (within (expr_of k.0.tree) k.1 (set_of k.2)) r saw k.6
       (refl, of_this s vars None (Plain (base.Id k.1)) k.0 a e, all) tt
 
-  Not_good : (x : tree.Expr) (at : ℕ) → ExprGood s x → ExprGood s (e.Not x at)
+  Not_good : (x : tree.Expr) (at : ℕ) → ExprGood s x → ExprGood s (e.Not at x)
   Not_good x at gx vars ok asked is r h lit =
       let k = part.Not_parts s vars asked x at r h in
       let saw = seen.Not_seen k.0.tree in
@@ -180,7 +180,7 @@ module _ (s : Schema) (fields : HaveFields s) where
       let a = gx vars ok bool tt k.0 k.1 lits in
       fitted s vars asked at (Plain base.Bool) (t.Not k.0.tree) (negation (expr_of k.0.tree)) r saw k.2 (refl, at_type s vars (Plain base.Bool) k.0 a) tt
 
-  And_good : (x y : tree.Expr) (at : ℕ) → ExprGood s x → ExprGood s y → ExprGood s (e.And x y at)
+  And_good : (x y : tree.Expr) (at : ℕ) → ExprGood s x → ExprGood s y → ExprGood s (e.And at x y)
   And_good x y at gx gy vars ok asked is r h lit =
       let k = part.And_parts s vars asked x y at r h in
       let saw = seen.And_seen k.0.tree k.1.tree in
@@ -190,7 +190,7 @@ module _ (s : Schema) (fields : HaveFields s) where
       fitted s vars asked at (Plain base.Bool) (t.And k.0.tree k.1.tree) (both (expr_of k.0.tree) (expr_of k.1.tree)) r saw k.4
       (refl, at_type s vars (Plain base.Bool) k.0 a, at_type s vars (Plain base.Bool) k.1 b) tt
 
-  Or_good : (x y : tree.Expr) (at : ℕ) → ExprGood s x → ExprGood s y → ExprGood s (e.Or x y at)
+  Or_good : (x y : tree.Expr) (at : ℕ) → ExprGood s x → ExprGood s y → ExprGood s (e.Or at x y)
   Or_good x y at gx gy vars ok asked is r h lit =
       let k = part.Or_parts s vars asked x y at r h in
       let saw = seen.Or_seen k.0.tree k.1.tree in
@@ -204,7 +204,7 @@ module _ (s : Schema) (fields : HaveFields s) where
   same_asked : (vars : List Var) (asked : Option TTy) (one : Typed) (at : ℕ) (tree : TExpr) (x : Expr) → IsOf s vars asked one → expr_of tree ≡ x → IsExpr s (scope_of vars) one.ty x → IsOf s vars asked (of_type at one.ty tree)
   same_asked vars asked one at tree x a saw good = record { expr = subst (λ z. IsExpr s (scope_of vars) one.ty z) (sym saw) good; type = a.type; same = a.same }
 
-  IfE_good : (c x y : tree.Expr) (at : ℕ) → ExprGood s c → ExprGood s x → ExprGood s y → ExprGood s (e.IfE c x y at)
+  IfE_good : (c x y : tree.Expr) (at : ℕ) → ExprGood s c → ExprGood s x → ExprGood s y → ExprGood s (e.IfE at c x y)
   IfE_good c x y at gc gx gy vars ok asked is r h lit =
       let k = part.IfE_parts s vars asked c x y at r h in
       let whole : TExpr = t.IfE k.0.tree k.1.tree k.2.tree in
@@ -219,7 +219,7 @@ module _ (s : Schema) (fields : HaveFields s) where
       (same_asked vars asked k.1 at whole (if_expr (expr_of k.0.tree) (expr_of k.1.tree) (expr_of k.2.tree)) b saw
       (at_type s vars (Plain base.Bool) k.0 a, b.expr, at_type s vars k.1.ty k.2 d))
 
-  MatchE_good : (x y : tree.Expr) (v : Named) (z : tree.Expr) (at : ℕ) → ExprGood s x → ExprGood s y → ExprGood s z → ExprGood s (e.MatchE x y v z at)
+  MatchE_good : (x y : tree.Expr) (v : Named) (z : tree.Expr) (at : ℕ) → ExprGood s x → ExprGood s y → ExprGood s z → ExprGood s (e.MatchE at x y (v, z))
   MatchE_good x y v z at gx gy gz vars ok asked is r h lit =
       let k = part.MatchE_parts s vars asked x y v z at r h in
       let whole : TExpr = t.MatchE k.0.tree k.2.tree v.name k.4.tree in
@@ -254,12 +254,12 @@ module _ (s : Schema) (fields : HaveFields s) where
   principals_is Principals at u h = refl
   principals_is (Records n) at u h = cc
 
-  Everyone_good : (word at : ℕ) → SetGood s (se.Everyone word at)
+  Everyone_good : (word at : ℕ) → SetGood s (se.Everyone at word)
   Everyone_good word at = (
     λ vars ok content is r h lit.
         let k = part.Everyone_parts s vars content word at r h in
         as_seen vars (content_of content) ts.Everyone r everyone seen.Everyone_seen k.2 (principals_is content word k.0 k.1),
-    λ vars ok r h lit. no_source vars (se.Everyone word at) at r (form.Everyone_no_source s vars word at) h,
+    λ vars ok r h lit. no_source vars (se.Everyone at word) at r (form.Everyone_no_source s vars word at) h,
   )
 
   Nobody_good : (at : ℕ) → SetGood s (se.Nobody at)
@@ -269,7 +269,7 @@ module _ (s : Schema) (fields : HaveFields s) where
     λ vars ok r h lit. no_source vars (se.Nobody at) at r (form.Nobody_no_source s vars at) h,
   )
 
-  List_good : (xs : List (SureItem s)) (at : ℕ) → SetGood s (se.List (map (λ (x : SureItem s). x.0) xs) at)
+  List_good : (xs : List (SureItem s)) (at : ℕ) → SetGood s (se.List at (map (λ (x : SureItem s). x.0) xs))
   List_good xs at =
       let plain : List Item = map (λ (x : SureItem s). x.0) xs in (
         λ vars ok content is r h lit.
@@ -280,10 +280,10 @@ module _ (s : Schema) (fields : HaveFields s) where
             let all : EachOk (typed_item s vars content) plain k.0 = subst (EachOk (typed_item s vars content) plain) each.1 each.2 in
             as_seen vars (content_of content) (ts.List k.0) r (listed (items_of (map item_of k.0))) saw made
             (items_good s vars ok content is xs k.0 all (set_literals (ts.List k.0) r (listed (items_of (map item_of k.0))) saw made lit)),
-        λ vars ok r h lit. no_source vars (se.List plain at) at r (form.List_no_source s vars plain at) h,
+        λ vars ok r h lit. no_source vars (se.List at plain) at r (form.List_no_source s vars plain at) h,
       )
 
-  Sum_good : (x y : tree_set.SetExpr) (at : ℕ) → SetGood s x → SetGood s y → SetGood s (se.Sum x y at)
+  Sum_good : (x y : tree_set.SetExpr) (at : ℕ) → SetGood s x → SetGood s y → SetGood s (se.Sum at x y)
   Sum_good x y at gx gy = (
     λ vars ok content is r h lit.
         let k = part.Sum_parts s vars content x y at r h in
@@ -291,10 +291,10 @@ module _ (s : Schema) (fields : HaveFields s) where
         let lits = set_literals (ts.Sum k.0 k.1) r (union (set_of k.0) (set_of k.1)) (seen.Sum_seen k.0 k.1) made lit in
         as_seen vars (content_of content) (ts.Sum k.0 k.1) r (union (set_of k.0) (set_of k.1)) (seen.Sum_seen k.0 k.1) made
         (gx.0 vars ok content is k.0 k.2 lits.0, gy.0 vars ok content is k.1 k.3 lits.1),
-    λ vars ok r h lit. no_source vars (se.Sum x y at) at r (form.Sum_no_source s vars x y at) h,
+    λ vars ok r h lit. no_source vars (se.Sum at x y) at r (form.Sum_no_source s vars x y at) h,
   )
 
-  Less_good : (x y : tree_set.SetExpr) (at : ℕ) → SetGood s x → SetGood s y → SetGood s (se.Less x y at)
+  Less_good : (x y : tree_set.SetExpr) (at : ℕ) → SetGood s x → SetGood s y → SetGood s (se.Less at x y)
   Less_good x y at gx gy = (
     λ vars ok content is r h lit.
         let k = part.Less_parts s vars content x y at r h in
@@ -302,7 +302,7 @@ module _ (s : Schema) (fields : HaveFields s) where
         let lits = set_literals (ts.Less k.0 k.1) r (minus (set_of k.0) (set_of k.1)) (seen.Minus_seen k.0 k.1) made lit in
         as_seen vars (content_of content) (ts.Less k.0 k.1) r (minus (set_of k.0) (set_of k.1)) (seen.Minus_seen k.0 k.1) made
         (gx.0 vars ok content is k.0 k.2 lits.0, gy.0 vars ok content is k.1 k.3 lits.1),
-    λ vars ok r h lit. no_source vars (se.Less x y at) at r (form.Less_no_source s vars x y at) h,
+    λ vars ok r h lit. no_source vars (se.Less at x y) at r (form.Less_no_source s vars x y at) h,
   )
 
   -- a chain where it holds what is asked
@@ -325,7 +325,7 @@ module _ (s : Schema) (fields : HaveFields s) where
   source_literals : (at m : ℕ) (a : TSet) (r : Source) → source at m a ≡ r → SetHasLiterals (set_of r.set) → SetHasLiterals (set_of a)
   source_literals at m a r h lit = subst (λ (z : Source). SetHasLiterals (set_of z.set)) (sym h) lit
 
-  Find_source_good : (model : Named) (xs : List (SureFilter s)) (at : ℕ) → SourceGood s (se.Find model (map (λ (x : SureFilter s). x.0) xs) at)
+  Find_source_good : (model : Named) (xs : List (SureFilter s)) (at : ℕ) → SourceGood s (se.Find at model (map (λ (x : SureFilter s). x.0) xs))
   Find_source_good model xs at vars ok r h lit =
       let plain : List Filter = map (λ (x : SureFilter s). x.0) xs in
       let k = part.Find_source_parts s vars model plain at r h in
@@ -338,7 +338,7 @@ module _ (s : Schema) (fields : HaveFields s) where
       source_seen vars model.at k.0 (ts.Find k.0 k.1) r k.4 has
       (λ w held. subst (λ z. IsSet s (scope_of vars) w z) (sym saw) (held, has, good))
 
-  Path_source_good : (x : tree.Expr) (at : ℕ) → ExprGood s x → SourceGood s (se.Path x at)
+  Path_source_good : (x : tree.Expr) (at : ℕ) → ExprGood s x → SourceGood s (se.Path at x)
   Path_source_good x at gx vars ok r h lit =
       let k = part.Path_source_parts s vars x at r h in
       let saw = seen.Path_seen k.1 k.0.tree in
@@ -349,7 +349,7 @@ module _ (s : Schema) (fields : HaveFields s) where
       source_seen vars k.0.at k.1 (ts.Path k.1 k.0.tree) r k.4 (set_type k.0.ty k.1 a.type e)
       (λ w held. subst (λ z. IsSet s (scope_of vars) w z) (sym saw) (held, good))
 
-  MapS_source_good : (x : tree_set.SetExpr) (v : Named) (y : tree.Expr) (at : ℕ) → SetGood s x → ExprGood s y → SourceGood s (se.MapS x v y at)
+  MapS_source_good : (x : tree_set.SetExpr) (v : Named) (y : tree.Expr) (at : ℕ) → SetGood s x → ExprGood s y → SourceGood s (se.MapS at x v y)
   MapS_source_good x v y at gx gy vars ok r h lit =
       let k = part.MapS_source_parts s vars x v y at r h in
       let whole : TSet = ts.MapS k.0.set k.0.model v.name k.3 k.2.tree in
@@ -364,7 +364,7 @@ module _ (s : Schema) (fields : HaveFields s) where
       source_seen vars k.0.at k.3 whole r k.8 (id_type k.2.ty k.3 a.type e)
       (λ w held. subst (λ z. IsSet s (scope_of vars) w z) (sym saw) (held, over.model, from, good))
 
-  Find_good : (model : Named) (xs : List (SureFilter s)) (at : ℕ) → SetGood s (se.Find model (map (λ (x : SureFilter s). x.0) xs) at)
+  Find_good : (model : Named) (xs : List (SureFilter s)) (at : ℕ) → SetGood s (se.Find at model (map (λ (x : SureFilter s). x.0) xs))
   Find_good model xs at =
       let source = Find_source_good model xs at in (
         λ vars ok content is r h lit.
@@ -373,7 +373,7 @@ module _ (s : Schema) (fields : HaveFields s) where
         source,
       )
 
-  Path_good : (x : tree.Expr) (at : ℕ) → ExprGood s x → SetGood s (se.Path x at)
+  Path_good : (x : tree.Expr) (at : ℕ) → ExprGood s x → SetGood s (se.Path at x)
   Path_good x at gx =
       let source = Path_source_good x at gx in (
         λ vars ok content is r h lit.
@@ -382,7 +382,7 @@ module _ (s : Schema) (fields : HaveFields s) where
         source,
       )
 
-  MapS_good : (x : tree_set.SetExpr) (v : Named) (y : tree.Expr) (at : ℕ) → SetGood s x → ExprGood s y → SetGood s (se.MapS x v y at)
+  MapS_good : (x : tree_set.SetExpr) (v : Named) (y : tree.Expr) (at : ℕ) → SetGood s x → ExprGood s y → SetGood s (se.MapS at x v y)
   MapS_good x v y at gx gy =
       let source = MapS_source_good x v y at gx gy in (
         λ vars ok content is r h lit.
@@ -391,7 +391,7 @@ module _ (s : Schema) (fields : HaveFields s) where
         source,
       )
 
-  FlatS_good : (x : tree_set.SetExpr) (v : Named) (y : tree_set.SetExpr) (at : ℕ) → SetGood s x → SetGood s y → SetGood s (se.FlatS x v y at)
+  FlatS_good : (x : tree_set.SetExpr) (v : Named) (y : tree_set.SetExpr) (at : ℕ) → SetGood s x → SetGood s y → SetGood s (se.FlatS at x v y)
   FlatS_good x v y at gx gy = (
     λ vars ok content is r h lit.
         let k = part.FlatS_parts s vars content x v y at r h in
@@ -404,10 +404,10 @@ module _ (s : Schema) (fields : HaveFields s) where
         let each = gy.0 k.1 (inner_typed s vars v (Plain (base.Id k.0.model)) k.1 k.4 ok over.model) content is k.2 k.5 lits.1 in
         as_seen vars (content_of content) whole r (flat_mapped (set_of k.0.set) k.0.model v.name (set_of k.2)) saw made
         (over.model, over.set (typing.records k.0.model) (over.model, refl), inner_set vars v (Plain (base.Id k.0.model)) k.1 (content_of content) (set_of k.2) scope each),
-    λ vars ok r h lit. no_source vars (se.FlatS x v y at) at r (form.FlatS_no_source s vars x v y at) h,
+    λ vars ok r h lit. no_source vars (se.FlatS at x v y) at r (form.FlatS_no_source s vars x v y at) h,
   )
 
-  IfS_good : (c : tree.Expr) (x y : tree_set.SetExpr) (at : ℕ) → ExprGood s c → SetGood s x → SetGood s y → SetGood s (se.IfS c x y at)
+  IfS_good : (c : tree.Expr) (x y : tree_set.SetExpr) (at : ℕ) → ExprGood s c → SetGood s x → SetGood s y → SetGood s (se.IfS at c x y)
   IfS_good c x y at gc gx gy = (
     λ vars ok content is r h lit.
         let k = part.IfS_parts s vars content c x y at r h in
@@ -417,10 +417,10 @@ module _ (s : Schema) (fields : HaveFields s) where
         let lits = set_literals whole r (if_set (expr_of k.0.tree) (set_of k.1) (set_of k.2)) saw made lit in
         as_seen vars (content_of content) whole r (if_set (expr_of k.0.tree) (set_of k.1) (set_of k.2)) saw made
         (at_type s vars (Plain base.Bool) k.0 (gc vars ok bool tt k.0 k.3 lits.0), gx.0 vars ok content is k.1 k.4 lits.1, gy.0 vars ok content is k.2 k.5 lits.2),
-    λ vars ok r h lit. no_source vars (se.IfS c x y at) at r (form.IfS_no_source s vars c x y at) h,
+    λ vars ok r h lit. no_source vars (se.IfS at c x y) at r (form.IfS_no_source s vars c x y at) h,
   )
 
-  MatchS_good : (x : tree.Expr) (y : tree_set.SetExpr) (v : Named) (z : tree_set.SetExpr) (at : ℕ) → ExprGood s x → SetGood s y → SetGood s z → SetGood s (se.MatchS x y v z at)
+  MatchS_good : (x : tree.Expr) (y : tree_set.SetExpr) (v : Named) (z : tree_set.SetExpr) (at : ℕ) → ExprGood s x → SetGood s y → SetGood s z → SetGood s (se.MatchS at x y v z)
   MatchS_good x y v z at gx gy gz = (
     λ vars ok content is r h lit.
         let k = part.MatchS_parts s vars content x y v z at r h in
@@ -435,7 +435,7 @@ module _ (s : Schema) (fields : HaveFields s) where
         let some = gz.0 k.3 (inner_typed s vars v (Plain k.1) k.3 k.8 ok inside) content is k.4 k.9 lits.2 in
         as_seen vars (content_of content) whole r (match_set (expr_of k.0.tree) (set_of k.2) v.name (set_of k.4)) saw made
         (k.1, of_this s vars None (Opt k.1) k.0 a e, gy.0 vars ok content is k.2 k.7 lits.1, inner_set vars v (Plain k.1) k.3 (content_of content) (set_of k.4) scope some),
-    λ vars ok r h lit. no_source vars (se.MatchS x y v z at) at r (form.MatchS_no_source s vars x y v z at) h,
+    λ vars ok r h lit. no_source vars (se.MatchS at x y v z) at r (form.MatchS_no_source s vars x y v z at) h,
   )
 
   -- ---- items and filters
@@ -496,34 +496,34 @@ module _ (s : Schema) (fields : HaveFields s) where
 
   expr_step : (y : Expr-F SureExpr (SureItem s) SureSet (SureFilter s))
       → ExprGood s (roll-Expr (map-Expr SureExpr (SureItem s) SureSet (SureFilter s) tree.Expr Item tree_set.SetExpr Filter (λ e. e.0) (λ e. e.0) (λ e. e.0) (λ e. e.0) y))
-  expr_step (Expr-F.Flag value at) = subst (ExprGood s) (sym (e.rolls-Flag value at)) (Flag_good value at)
-  expr_step (Expr-F.Num value at) = subst (ExprGood s) (sym (e.rolls-Num value at)) (Num_good value at)
-  expr_step (Expr-F.Str text at) = subst (ExprGood s) (sym (e.rolls-Str text at)) (Str_good text at)
-  expr_step (Expr-F.Var x at) = subst (ExprGood s) (sym (e.rolls-Var x at)) (Var_good x at)
+  expr_step (Expr-F.Flag at value) = subst (ExprGood s) (sym (e.rolls-Flag at value)) (Flag_good value at)
+  expr_step (Expr-F.Num at value) = subst (ExprGood s) (sym (e.rolls-Num at value)) (Num_good value at)
+  expr_step (Expr-F.Str at text) = subst (ExprGood s) (sym (e.rolls-Str at text)) (Str_good text at)
+  expr_step (Expr-F.Var at x) = subst (ExprGood s) (sym (e.rolls-Var at x)) (Var_good x at)
   expr_step (Expr-F.NoneLit at) = subst (ExprGood s) (sym (e.rolls-NoneLit at)) (NoneLit_good at)
-  expr_step (Expr-F.SomeLit x at) = subst (ExprGood s) (sym (e.rolls-SomeLit x.0 at)) (SomeLit_good x.0 at x.1)
-  expr_step (Expr-F.Get x f at) = subst (ExprGood s) (sym (e.rolls-Get x.0 f at)) (Get_good x.0 f at x.1)
-  expr_step (Expr-F.Cmp op x y at) = subst (ExprGood s) (sym (e.rolls-Cmp op x.0 y.0 at)) (Cmp_good op x.0 y.0 at x.1 y.1)
-  expr_step (Expr-F.Member x set at) = subst (ExprGood s) (sym (e.rolls-Member x.0 set.0 at)) (Member_good x.0 set.0 at x.1 set.1)
-  expr_step (Expr-F.Not x at) = subst (ExprGood s) (sym (e.rolls-Not x.0 at)) (Not_good x.0 at x.1)
-  expr_step (Expr-F.And x y at) = subst (ExprGood s) (sym (e.rolls-And x.0 y.0 at)) (And_good x.0 y.0 at x.1 y.1)
-  expr_step (Expr-F.Or x y at) = subst (ExprGood s) (sym (e.rolls-Or x.0 y.0 at)) (Or_good x.0 y.0 at x.1 y.1)
-  expr_step (Expr-F.IfE c x y at) = subst (ExprGood s) (sym (e.rolls-IfE c.0 x.0 y.0 at)) (IfE_good c.0 x.0 y.0 at c.1 x.1 y.1)
-  expr_step (Expr-F.MatchE x y v z at) = subst (ExprGood s) (sym (e.rolls-MatchE x.0 y.0 v z.0 at)) (MatchE_good x.0 y.0 v z.0 at x.1 y.1 z.1)
+  expr_step (Expr-F.SomeLit at x) = subst (ExprGood s) (sym (e.rolls-SomeLit at x.0)) (SomeLit_good x.0 at x.1)
+  expr_step (Expr-F.Get at x f) = subst (ExprGood s) (sym (e.rolls-Get at x.0 f)) (Get_good x.0 f at x.1)
+  expr_step (Expr-F.Cmp at op x y) = subst (ExprGood s) (sym (e.rolls-Cmp at op x.0 y.0)) (Cmp_good op x.0 y.0 at x.1 y.1)
+  expr_step (Expr-F.Member at x set) = subst (ExprGood s) (sym (e.rolls-Member at x.0 set.0)) (Member_good x.0 set.0 at x.1 set.1)
+  expr_step (Expr-F.Not at x) = subst (ExprGood s) (sym (e.rolls-Not at x.0)) (Not_good x.0 at x.1)
+  expr_step (Expr-F.And at x y) = subst (ExprGood s) (sym (e.rolls-And at x.0 y.0)) (And_good x.0 y.0 at x.1 y.1)
+  expr_step (Expr-F.Or at x y) = subst (ExprGood s) (sym (e.rolls-Or at x.0 y.0)) (Or_good x.0 y.0 at x.1 y.1)
+  expr_step (Expr-F.IfE at c x y) = subst (ExprGood s) (sym (e.rolls-IfE at c.0 x.0 y.0)) (IfE_good c.0 x.0 y.0 at c.1 x.1 y.1)
+  expr_step (Expr-F.MatchE at x y (v, z)) = subst (ExprGood s) (sym (e.rolls-MatchE at x.0 y.0 (v, z.0))) (MatchE_good x.0 y.0 v z.0 at x.1 y.1 z.1)
 
   set_step : (y : SetExpr-F SureExpr (SureItem s) SureSet (SureFilter s))
       → SetGood s (roll-SetExpr (map-SetExpr SureExpr (SureItem s) SureSet (SureFilter s) tree.Expr Item tree_set.SetExpr Filter (λ e. e.0) (λ e. e.0) (λ e. e.0) (λ e. e.0) y))
-  set_step (SetExpr-F.Everyone word at) = subst (SetGood s) (sym (se.rolls-Everyone word at)) (Everyone_good word at)
+  set_step (SetExpr-F.Everyone at word) = subst (SetGood s) (sym (se.rolls-Everyone at word)) (Everyone_good word at)
   set_step (SetExpr-F.Nobody at) = subst (SetGood s) (sym (se.rolls-Nobody at)) (Nobody_good at)
-  set_step (SetExpr-F.Sum x y at) = subst (SetGood s) (sym (se.rolls-Sum x.0 y.0 at)) (Sum_good x.0 y.0 at x.1 y.1)
-  set_step (SetExpr-F.Less x y at) = subst (SetGood s) (sym (se.rolls-Less x.0 y.0 at)) (Less_good x.0 y.0 at x.1 y.1)
-  set_step (SetExpr-F.Path x at) = subst (SetGood s) (sym (se.rolls-Path x.0 at)) (Path_good x.0 at x.1)
-  set_step (SetExpr-F.MapS x v y at) = subst (SetGood s) (sym (se.rolls-MapS x.0 v y.0 at)) (MapS_good x.0 v y.0 at x.1 y.1)
-  set_step (SetExpr-F.FlatS x v y at) = subst (SetGood s) (sym (se.rolls-FlatS x.0 v y.0 at)) (FlatS_good x.0 v y.0 at x.1 y.1)
-  set_step (SetExpr-F.IfS c x y at) = subst (SetGood s) (sym (se.rolls-IfS c.0 x.0 y.0 at)) (IfS_good c.0 x.0 y.0 at c.1 x.1 y.1)
-  set_step (SetExpr-F.MatchS x y v z at) = subst (SetGood s) (sym (se.rolls-MatchS x.0 y.0 v z.0 at)) (MatchS_good x.0 y.0 v z.0 at x.1 y.1 z.1)
-  set_step (SetExpr-F.List xs at) = subst (SetGood s) (sym (se.rolls-List (map (λ (x : SureItem s). x.0) xs) at)) (List_good xs at)
-  set_step (SetExpr-F.Find model xs at) = subst (SetGood s) (sym (se.rolls-Find model (map (λ (x : SureFilter s). x.0) xs) at)) (Find_good model xs at)
+  set_step (SetExpr-F.Sum at x y) = subst (SetGood s) (sym (se.rolls-Sum at x.0 y.0)) (Sum_good x.0 y.0 at x.1 y.1)
+  set_step (SetExpr-F.Less at x y) = subst (SetGood s) (sym (se.rolls-Less at x.0 y.0)) (Less_good x.0 y.0 at x.1 y.1)
+  set_step (SetExpr-F.Path at x) = subst (SetGood s) (sym (se.rolls-Path at x.0)) (Path_good x.0 at x.1)
+  set_step (SetExpr-F.MapS at x v y) = subst (SetGood s) (sym (se.rolls-MapS at x.0 v y.0)) (MapS_good x.0 v y.0 at x.1 y.1)
+  set_step (SetExpr-F.FlatS at x v y) = subst (SetGood s) (sym (se.rolls-FlatS at x.0 v y.0)) (FlatS_good x.0 v y.0 at x.1 y.1)
+  set_step (SetExpr-F.IfS at c x y) = subst (SetGood s) (sym (se.rolls-IfS at c.0 x.0 y.0)) (IfS_good c.0 x.0 y.0 at c.1 x.1 y.1)
+  set_step (SetExpr-F.MatchS at x y v z) = subst (SetGood s) (sym (se.rolls-MatchS at x.0 y.0 v z.0)) (MatchS_good x.0 y.0 v z.0 at x.1 y.1 z.1)
+  set_step (SetExpr-F.List at xs) = subst (SetGood s) (sym (se.rolls-List at (map (λ (x : SureItem s). x.0) xs))) (List_good xs at)
+  set_step (SetExpr-F.Find at model xs) = subst (SetGood s) (sym (se.rolls-Find at model (map (λ (x : SureFilter s). x.0) xs))) (Find_good model xs at)
 
   item_step : (y : Item-F SureExpr (SureItem s) SureSet (SureFilter s))
       → ItemGood s (roll-Item (map-Item SureExpr (SureItem s) SureSet (SureFilter s) tree.Expr Item tree_set.SetExpr Filter (λ e. e.0) (λ e. e.0) (λ e. e.0) (λ e. e.0) y))

@@ -42,19 +42,19 @@ pub is_given : {A : Type 0} (o r : Checked A) → r ≡ o → Gives o r
 is_given o (Ok a) h = sym h
 is_given o (Err err) h = λ _. sym h
 
-pub Flag_last : (s : Schema) (vars : List Var) (asked : Option TTy) (value : Bool) (at : ℕ) (w : Expr) (r : Checked Typed) → w ≡ e.Flag value at → Gives (fits (truth at (t.Flag value)) asked) r
+pub Flag_last : (s : Schema) (vars : List Var) (asked : Option TTy) (value : Bool) (at : ℕ) (w : Expr) (r : Checked Typed) → w ≡ e.Flag at value → Gives (fits (truth at (t.Flag value)) asked) r
     → Gives (typed_expr s vars asked w) r
 Flag_last s vars asked value at w r is done =
     same_gives (typed_expr s vars asked w) (fits (truth at (t.Flag value)) asked) r
     ((ap (λ z. typed_expr s vars asked z) is ∙ form.Flag_is s vars asked value at)) done
 
-pub Num_last : (s : Schema) (vars : List Var) (asked : Option TTy) (value : ℤ) (at : ℕ) (w : Expr) (r : Checked Typed) → w ≡ e.Num value at → Gives (fits (of_type at (Plain base.Int) (t.Num value)) asked) r
+pub Num_last : (s : Schema) (vars : List Var) (asked : Option TTy) (value : ℤ) (at : ℕ) (w : Expr) (r : Checked Typed) → w ≡ e.Num at value → Gives (fits (of_type at (Plain base.Int) (t.Num value)) asked) r
     → Gives (typed_expr s vars asked w) r
 Num_last s vars asked value at w r is done =
     same_gives (typed_expr s vars asked w) (fits (of_type at (Plain base.Int) (t.Num value)) asked) r
     ((ap (λ z. typed_expr s vars asked z) is ∙ form.Num_is s vars asked value at)) done
 
-pub Str_last : (s : Schema) (vars : List Var) (asked : Option TTy) (text : List ℕ) (at : ℕ) (w : Expr) (r : Checked Typed) → w ≡ e.Str text at → Gives (fits (of_type at (Plain base.Text) (t.Str text)) asked) r
+pub Str_last : (s : Schema) (vars : List Var) (asked : Option TTy) (text : List ℕ) (at : ℕ) (w : Expr) (r : Checked Typed) → w ≡ e.Str at text → Gives (fits (of_type at (Plain base.Text) (t.Str text)) asked) r
     → Gives (typed_expr s vars asked w) r
 Str_last s vars asked text at w r is done =
     same_gives (typed_expr s vars asked w) (fits (of_type at (Plain base.Text) (t.Str text)) asked) r
@@ -66,52 +66,52 @@ NoneLit_last s vars asked at w r is done =
     same_gives (typed_expr s vars asked w) (none_of asked at) r
     ((ap (λ z. typed_expr s vars asked z) is ∙ form.NoneLit_is s vars asked at)) done
 
-pub Var_last : (s : Schema) (vars : List Var) (asked : Option TTy) (x : Named) (at : ℕ) (w : Expr) (r : Checked Typed) → w ≡ e.Var x at → Gives (or_else (var_named vars x.name) (Unknown x.at) >>= (λ var. fits (of_type at var.1 (t.Var var.0 x.name)) asked)) r
+pub Var_last : (s : Schema) (vars : List Var) (asked : Option TTy) (x : Named) (at : ℕ) (w : Expr) (r : Checked Typed) → w ≡ e.Var at x → Gives (or_else (var_named vars x.name) (Unknown x.at) >>= (λ var. fits (of_type at var.1 (t.Var var.0 x.name)) asked)) r
     → Gives (typed_expr s vars asked w) r
 Var_last s vars asked x at w r is done =
     same_gives (typed_expr s vars asked w) (or_else (var_named vars x.name) (Unknown x.at) >>= (λ var. fits (of_type at var.1 (t.Var var.0 x.name)) asked)) r
     ((ap (λ z. typed_expr s vars asked z) is ∙ form.Var_is s vars asked x at)) done
 
-pub SomeLit_fault0 : (s : Schema) (vars : List Var) (asked : Option TTy) (x : Expr) (at : ℕ) (w : Expr) (err : TypeErr) → w ≡ e.SomeLit x at → (err ≢ OutOfMemory → typed_expr s vars (inner_asked asked) x ≡ Err err)
+pub SomeLit_fault0 : (s : Schema) (vars : List Var) (asked : Option TTy) (x : Expr) (at : ℕ) (w : Expr) (err : TypeErr) → w ≡ e.SomeLit at x → (err ≢ OutOfMemory → typed_expr s vars (inner_asked asked) x ≡ Err err)
     → err ≢ OutOfMemory → typed_expr s vars asked w ≡ Err err
 SomeLit_fault0 s vars asked x at w err is fault ne =
     (ap (λ z. typed_expr s vars asked z) is ∙ form.SomeLit_is s vars asked x at)
     ∙ stops (typed_expr s vars (inner_asked asked) x) (λ inner. base_of inner.ty inner.at >>= (λ b. fits (of_type at (Opt b) (t.SomeLit inner.tree)) asked)) err (fault ne)
 
-pub SomeLit_last : (s : Schema) (vars : List Var) (asked : Option TTy) (x : Expr) (at : ℕ) (w : Expr) (inner : Typed) (r : Checked Typed) → w ≡ e.SomeLit x at → typed_expr s vars (inner_asked asked) x ≡ Ok inner → Gives (base_of inner.ty inner.at >>= (λ b. fits (of_type at (Opt b) (t.SomeLit inner.tree)) asked)) r
+pub SomeLit_last : (s : Schema) (vars : List Var) (asked : Option TTy) (x : Expr) (at : ℕ) (w : Expr) (inner : Typed) (r : Checked Typed) → w ≡ e.SomeLit at x → typed_expr s vars (inner_asked asked) x ≡ Ok inner → Gives (base_of inner.ty inner.at >>= (λ b. fits (of_type at (Opt b) (t.SomeLit inner.tree)) asked)) r
     → Gives (typed_expr s vars asked w) r
 SomeLit_last s vars asked x at w inner r is found0 done =
     same_gives (typed_expr s vars asked w) (base_of inner.ty inner.at >>= (λ b. fits (of_type at (Opt b) (t.SomeLit inner.tree)) asked)) r
     ((ap (λ z. typed_expr s vars asked z) is ∙ form.SomeLit_is s vars asked x at)
     ∙ goes_on (typed_expr s vars (inner_asked asked) x) (λ inner. base_of inner.ty inner.at >>= (λ b. fits (of_type at (Opt b) (t.SomeLit inner.tree)) asked)) inner found0) done
 
-pub Get_fault0 : (s : Schema) (vars : List Var) (asked : Option TTy) (x : Expr) (f : Named) (at : ℕ) (w : Expr) (err : TypeErr) → w ≡ e.Get x f at → (err ≢ OutOfMemory → typed_expr s vars None x ≡ Err err)
+pub Get_fault0 : (s : Schema) (vars : List Var) (asked : Option TTy) (x : Expr) (f : Named) (at : ℕ) (w : Expr) (err : TypeErr) → w ≡ e.Get at x f → (err ≢ OutOfMemory → typed_expr s vars None x ≡ Err err)
     → err ≢ OutOfMemory → typed_expr s vars asked w ≡ Err err
 Get_fault0 s vars asked x f at w err is fault ne =
     (ap (λ z. typed_expr s vars asked z) is ∙ form.Get_is s vars asked x f at)
     ∙ stops (typed_expr s vars None x) (λ of. field_of_record s of.ty of.at f >>= (λ field. fits (of_type at field.2 (t.Get of.tree field.0 field.1)) asked)) err (fault ne)
 
-pub Get_last : (s : Schema) (vars : List Var) (asked : Option TTy) (x : Expr) (f : Named) (at : ℕ) (w : Expr) (of : Typed) (r : Checked Typed) → w ≡ e.Get x f at → typed_expr s vars None x ≡ Ok of → Gives (field_of_record s of.ty of.at f >>= (λ field. fits (of_type at field.2 (t.Get of.tree field.0 field.1)) asked)) r
+pub Get_last : (s : Schema) (vars : List Var) (asked : Option TTy) (x : Expr) (f : Named) (at : ℕ) (w : Expr) (of : Typed) (r : Checked Typed) → w ≡ e.Get at x f → typed_expr s vars None x ≡ Ok of → Gives (field_of_record s of.ty of.at f >>= (λ field. fits (of_type at field.2 (t.Get of.tree field.0 field.1)) asked)) r
     → Gives (typed_expr s vars asked w) r
 Get_last s vars asked x f at w of r is found0 done =
     same_gives (typed_expr s vars asked w) (field_of_record s of.ty of.at f >>= (λ field. fits (of_type at field.2 (t.Get of.tree field.0 field.1)) asked)) r
     ((ap (λ z. typed_expr s vars asked z) is ∙ form.Get_is s vars asked x f at)
     ∙ goes_on (typed_expr s vars None x) (λ of. field_of_record s of.ty of.at f >>= (λ field. fits (of_type at field.2 (t.Get of.tree field.0 field.1)) asked)) of found0) done
 
-pub Cmp_fault0 : (s : Schema) (vars : List Var) (asked : Option TTy) (op : CmpOp) (x y : Expr) (at : ℕ) (w : Expr) (err : TypeErr) → w ≡ e.Cmp op x y at → (err ≢ OutOfMemory → typed_expr s vars (left_asked op) x ≡ Err err)
+pub Cmp_fault0 : (s : Schema) (vars : List Var) (asked : Option TTy) (op : CmpOp) (x y : Expr) (at : ℕ) (w : Expr) (err : TypeErr) → w ≡ e.Cmp at op x y → (err ≢ OutOfMemory → typed_expr s vars (left_asked op) x ≡ Err err)
     → err ≢ OutOfMemory → typed_expr s vars asked w ≡ Err err
 Cmp_fault0 s vars asked op x y at w err is fault ne =
     (ap (λ z. typed_expr s vars asked z) is ∙ form.Cmp_is s vars asked op x y at)
     ∙ stops (typed_expr s vars (left_asked op) x) (λ left. (base_of left.ty left.at >>= (λ by. (typed_expr s vars (Some left.ty) y >>= (λ right. fits (truth at (compared op by left.tree right.tree)) asked))))) err (fault ne)
 
-pub Cmp_fault1 : (s : Schema) (vars : List Var) (asked : Option TTy) (op : CmpOp) (x y : Expr) (at : ℕ) (w : Expr) (left : Typed) (err : TypeErr) → w ≡ e.Cmp op x y at → typed_expr s vars (left_asked op) x ≡ Ok left → (err ≢ OutOfMemory → base_of left.ty left.at ≡ Err err)
+pub Cmp_fault1 : (s : Schema) (vars : List Var) (asked : Option TTy) (op : CmpOp) (x y : Expr) (at : ℕ) (w : Expr) (left : Typed) (err : TypeErr) → w ≡ e.Cmp at op x y → typed_expr s vars (left_asked op) x ≡ Ok left → (err ≢ OutOfMemory → base_of left.ty left.at ≡ Err err)
     → err ≢ OutOfMemory → typed_expr s vars asked w ≡ Err err
 Cmp_fault1 s vars asked op x y at w left err is found0 fault ne =
     (ap (λ z. typed_expr s vars asked z) is ∙ form.Cmp_is s vars asked op x y at)
     ∙ goes_on (typed_expr s vars (left_asked op) x) (λ left. (base_of left.ty left.at >>= (λ by. (typed_expr s vars (Some left.ty) y >>= (λ right. fits (truth at (compared op by left.tree right.tree)) asked))))) left found0
     ∙ stops (base_of left.ty left.at) (λ by. (typed_expr s vars (Some left.ty) y >>= (λ right. fits (truth at (compared op by left.tree right.tree)) asked))) err (fault ne)
 
-pub Cmp_fault2 : (s : Schema) (vars : List Var) (asked : Option TTy) (op : CmpOp) (x y : Expr) (at : ℕ) (w : Expr) (left : Typed) (by : TBase) (err : TypeErr) → w ≡ e.Cmp op x y at → typed_expr s vars (left_asked op) x ≡ Ok left → base_of left.ty left.at ≡ Ok by → (err ≢ OutOfMemory → typed_expr s vars (Some left.ty) y ≡ Err err)
+pub Cmp_fault2 : (s : Schema) (vars : List Var) (asked : Option TTy) (op : CmpOp) (x y : Expr) (at : ℕ) (w : Expr) (left : Typed) (by : TBase) (err : TypeErr) → w ≡ e.Cmp at op x y → typed_expr s vars (left_asked op) x ≡ Ok left → base_of left.ty left.at ≡ Ok by → (err ≢ OutOfMemory → typed_expr s vars (Some left.ty) y ≡ Err err)
     → err ≢ OutOfMemory → typed_expr s vars asked w ≡ Err err
 Cmp_fault2 s vars asked op x y at w left by err is found0 found1 fault ne =
     (ap (λ z. typed_expr s vars asked z) is ∙ form.Cmp_is s vars asked op x y at)
@@ -119,7 +119,7 @@ Cmp_fault2 s vars asked op x y at w left by err is found0 found1 fault ne =
     ∙ goes_on (base_of left.ty left.at) (λ by. (typed_expr s vars (Some left.ty) y >>= (λ right. fits (truth at (compared op by left.tree right.tree)) asked))) by found1
     ∙ stops (typed_expr s vars (Some left.ty) y) (λ right. fits (truth at (compared op by left.tree right.tree)) asked) err (fault ne)
 
-pub Cmp_last : (s : Schema) (vars : List Var) (asked : Option TTy) (op : CmpOp) (x y : Expr) (at : ℕ) (w : Expr) (left : Typed) (by : TBase) (right : Typed) (r : Checked Typed) → w ≡ e.Cmp op x y at → typed_expr s vars (left_asked op) x ≡ Ok left → base_of left.ty left.at ≡ Ok by → typed_expr s vars (Some left.ty) y ≡ Ok right → Gives (fits (truth at (compared op by left.tree right.tree)) asked) r
+pub Cmp_last : (s : Schema) (vars : List Var) (asked : Option TTy) (op : CmpOp) (x y : Expr) (at : ℕ) (w : Expr) (left : Typed) (by : TBase) (right : Typed) (r : Checked Typed) → w ≡ e.Cmp at op x y → typed_expr s vars (left_asked op) x ≡ Ok left → base_of left.ty left.at ≡ Ok by → typed_expr s vars (Some left.ty) y ≡ Ok right → Gives (fits (truth at (compared op by left.tree right.tree)) asked) r
     → Gives (typed_expr s vars asked w) r
 Cmp_last s vars asked op x y at w left by right r is found0 found1 found2 done =
     same_gives (typed_expr s vars asked w) (fits (truth at (compared op by left.tree right.tree)) asked) r
@@ -128,20 +128,20 @@ Cmp_last s vars asked op x y at w left by right r is found0 found1 found2 done =
     ∙ goes_on (base_of left.ty left.at) (λ by. (typed_expr s vars (Some left.ty) y >>= (λ right. fits (truth at (compared op by left.tree right.tree)) asked))) by found1
     ∙ goes_on (typed_expr s vars (Some left.ty) y) (λ right. fits (truth at (compared op by left.tree right.tree)) asked) right found2) done
 
-pub Member_fault0 : (s : Schema) (vars : List Var) (asked : Option TTy) (x : Expr) (set : SetExpr) (at : ℕ) (w : Expr) (err : TypeErr) → w ≡ e.Member x set at → (err ≢ OutOfMemory → typed_expr s vars None x ≡ Err err)
+pub Member_fault0 : (s : Schema) (vars : List Var) (asked : Option TTy) (x : Expr) (set : SetExpr) (at : ℕ) (w : Expr) (err : TypeErr) → w ≡ e.Member at x set → (err ≢ OutOfMemory → typed_expr s vars None x ≡ Err err)
     → err ≢ OutOfMemory → typed_expr s vars asked w ≡ Err err
 Member_fault0 s vars asked x set at w err is fault ne =
     (ap (λ z. typed_expr s vars asked z) is ∙ form.Member_is s vars asked x set at)
     ∙ stops (typed_expr s vars None x) (λ of. (id_of of.ty of.at >>= (λ m. (typed_set s vars (Records m) set >>= (λ all. fits (truth at (t.Member of.tree m all)) asked))))) err (fault ne)
 
-pub Member_fault1 : (s : Schema) (vars : List Var) (asked : Option TTy) (x : Expr) (set : SetExpr) (at : ℕ) (w : Expr) (of : Typed) (err : TypeErr) → w ≡ e.Member x set at → typed_expr s vars None x ≡ Ok of → (err ≢ OutOfMemory → id_of of.ty of.at ≡ Err err)
+pub Member_fault1 : (s : Schema) (vars : List Var) (asked : Option TTy) (x : Expr) (set : SetExpr) (at : ℕ) (w : Expr) (of : Typed) (err : TypeErr) → w ≡ e.Member at x set → typed_expr s vars None x ≡ Ok of → (err ≢ OutOfMemory → id_of of.ty of.at ≡ Err err)
     → err ≢ OutOfMemory → typed_expr s vars asked w ≡ Err err
 Member_fault1 s vars asked x set at w of err is found0 fault ne =
     (ap (λ z. typed_expr s vars asked z) is ∙ form.Member_is s vars asked x set at)
     ∙ goes_on (typed_expr s vars None x) (λ of. (id_of of.ty of.at >>= (λ m. (typed_set s vars (Records m) set >>= (λ all. fits (truth at (t.Member of.tree m all)) asked))))) of found0
     ∙ stops (id_of of.ty of.at) (λ m. (typed_set s vars (Records m) set >>= (λ all. fits (truth at (t.Member of.tree m all)) asked))) err (fault ne)
 
-pub Member_fault2 : (s : Schema) (vars : List Var) (asked : Option TTy) (x : Expr) (set : SetExpr) (at : ℕ) (w : Expr) (of : Typed) (m : ℕ) (err : TypeErr) → w ≡ e.Member x set at → typed_expr s vars None x ≡ Ok of → id_of of.ty of.at ≡ Ok m → (err ≢ OutOfMemory → typed_set s vars (Records m) set ≡ Err err)
+pub Member_fault2 : (s : Schema) (vars : List Var) (asked : Option TTy) (x : Expr) (set : SetExpr) (at : ℕ) (w : Expr) (of : Typed) (m : ℕ) (err : TypeErr) → w ≡ e.Member at x set → typed_expr s vars None x ≡ Ok of → id_of of.ty of.at ≡ Ok m → (err ≢ OutOfMemory → typed_set s vars (Records m) set ≡ Err err)
     → err ≢ OutOfMemory → typed_expr s vars asked w ≡ Err err
 Member_fault2 s vars asked x set at w of m err is found0 found1 fault ne =
     (ap (λ z. typed_expr s vars asked z) is ∙ form.Member_is s vars asked x set at)
@@ -149,7 +149,7 @@ Member_fault2 s vars asked x set at w of m err is found0 found1 fault ne =
     ∙ goes_on (id_of of.ty of.at) (λ m. (typed_set s vars (Records m) set >>= (λ all. fits (truth at (t.Member of.tree m all)) asked))) m found1
     ∙ stops (typed_set s vars (Records m) set) (λ all. fits (truth at (t.Member of.tree m all)) asked) err (fault ne)
 
-pub Member_last : (s : Schema) (vars : List Var) (asked : Option TTy) (x : Expr) (set : SetExpr) (at : ℕ) (w : Expr) (of : Typed) (m : ℕ) (all : TSet) (r : Checked Typed) → w ≡ e.Member x set at → typed_expr s vars None x ≡ Ok of → id_of of.ty of.at ≡ Ok m → typed_set s vars (Records m) set ≡ Ok all → Gives (fits (truth at (t.Member of.tree m all)) asked) r
+pub Member_last : (s : Schema) (vars : List Var) (asked : Option TTy) (x : Expr) (set : SetExpr) (at : ℕ) (w : Expr) (of : Typed) (m : ℕ) (all : TSet) (r : Checked Typed) → w ≡ e.Member at x set → typed_expr s vars None x ≡ Ok of → id_of of.ty of.at ≡ Ok m → typed_set s vars (Records m) set ≡ Ok all → Gives (fits (truth at (t.Member of.tree m all)) asked) r
     → Gives (typed_expr s vars asked w) r
 Member_last s vars asked x set at w of m all r is found0 found1 found2 done =
     same_gives (typed_expr s vars asked w) (fits (truth at (t.Member of.tree m all)) asked) r
@@ -158,33 +158,33 @@ Member_last s vars asked x set at w of m all r is found0 found1 found2 done =
     ∙ goes_on (id_of of.ty of.at) (λ m. (typed_set s vars (Records m) set >>= (λ all. fits (truth at (t.Member of.tree m all)) asked))) m found1
     ∙ goes_on (typed_set s vars (Records m) set) (λ all. fits (truth at (t.Member of.tree m all)) asked) all found2) done
 
-pub Not_fault0 : (s : Schema) (vars : List Var) (asked : Option TTy) (x : Expr) (at : ℕ) (w : Expr) (err : TypeErr) → w ≡ e.Not x at → (err ≢ OutOfMemory → typed_expr s vars bool x ≡ Err err)
+pub Not_fault0 : (s : Schema) (vars : List Var) (asked : Option TTy) (x : Expr) (at : ℕ) (w : Expr) (err : TypeErr) → w ≡ e.Not at x → (err ≢ OutOfMemory → typed_expr s vars bool x ≡ Err err)
     → err ≢ OutOfMemory → typed_expr s vars asked w ≡ Err err
 Not_fault0 s vars asked x at w err is fault ne =
     (ap (λ z. typed_expr s vars asked z) is ∙ form.Not_is s vars asked x at)
     ∙ stops (typed_expr s vars bool x) (λ inner. fits (truth at (t.Not inner.tree)) asked) err (fault ne)
 
-pub Not_last : (s : Schema) (vars : List Var) (asked : Option TTy) (x : Expr) (at : ℕ) (w : Expr) (inner : Typed) (r : Checked Typed) → w ≡ e.Not x at → typed_expr s vars bool x ≡ Ok inner → Gives (fits (truth at (t.Not inner.tree)) asked) r
+pub Not_last : (s : Schema) (vars : List Var) (asked : Option TTy) (x : Expr) (at : ℕ) (w : Expr) (inner : Typed) (r : Checked Typed) → w ≡ e.Not at x → typed_expr s vars bool x ≡ Ok inner → Gives (fits (truth at (t.Not inner.tree)) asked) r
     → Gives (typed_expr s vars asked w) r
 Not_last s vars asked x at w inner r is found0 done =
     same_gives (typed_expr s vars asked w) (fits (truth at (t.Not inner.tree)) asked) r
     ((ap (λ z. typed_expr s vars asked z) is ∙ form.Not_is s vars asked x at)
     ∙ goes_on (typed_expr s vars bool x) (λ inner. fits (truth at (t.Not inner.tree)) asked) inner found0) done
 
-pub And_fault0 : (s : Schema) (vars : List Var) (asked : Option TTy) (x y : Expr) (at : ℕ) (w : Expr) (err : TypeErr) → w ≡ e.And x y at → (err ≢ OutOfMemory → typed_expr s vars bool x ≡ Err err)
+pub And_fault0 : (s : Schema) (vars : List Var) (asked : Option TTy) (x y : Expr) (at : ℕ) (w : Expr) (err : TypeErr) → w ≡ e.And at x y → (err ≢ OutOfMemory → typed_expr s vars bool x ≡ Err err)
     → err ≢ OutOfMemory → typed_expr s vars asked w ≡ Err err
 And_fault0 s vars asked x y at w err is fault ne =
     (ap (λ z. typed_expr s vars asked z) is ∙ form.And_is s vars asked x y at)
     ∙ stops (typed_expr s vars bool x) (λ left. (typed_expr s vars bool y >>= (λ right. fits (truth at (t.And left.tree right.tree)) asked))) err (fault ne)
 
-pub And_fault1 : (s : Schema) (vars : List Var) (asked : Option TTy) (x y : Expr) (at : ℕ) (w : Expr) (left : Typed) (err : TypeErr) → w ≡ e.And x y at → typed_expr s vars bool x ≡ Ok left → (err ≢ OutOfMemory → typed_expr s vars bool y ≡ Err err)
+pub And_fault1 : (s : Schema) (vars : List Var) (asked : Option TTy) (x y : Expr) (at : ℕ) (w : Expr) (left : Typed) (err : TypeErr) → w ≡ e.And at x y → typed_expr s vars bool x ≡ Ok left → (err ≢ OutOfMemory → typed_expr s vars bool y ≡ Err err)
     → err ≢ OutOfMemory → typed_expr s vars asked w ≡ Err err
 And_fault1 s vars asked x y at w left err is found0 fault ne =
     (ap (λ z. typed_expr s vars asked z) is ∙ form.And_is s vars asked x y at)
     ∙ goes_on (typed_expr s vars bool x) (λ left. (typed_expr s vars bool y >>= (λ right. fits (truth at (t.And left.tree right.tree)) asked))) left found0
     ∙ stops (typed_expr s vars bool y) (λ right. fits (truth at (t.And left.tree right.tree)) asked) err (fault ne)
 
-pub And_last : (s : Schema) (vars : List Var) (asked : Option TTy) (x y : Expr) (at : ℕ) (w : Expr) (left : Typed) (right : Typed) (r : Checked Typed) → w ≡ e.And x y at → typed_expr s vars bool x ≡ Ok left → typed_expr s vars bool y ≡ Ok right → Gives (fits (truth at (t.And left.tree right.tree)) asked) r
+pub And_last : (s : Schema) (vars : List Var) (asked : Option TTy) (x y : Expr) (at : ℕ) (w : Expr) (left : Typed) (right : Typed) (r : Checked Typed) → w ≡ e.And at x y → typed_expr s vars bool x ≡ Ok left → typed_expr s vars bool y ≡ Ok right → Gives (fits (truth at (t.And left.tree right.tree)) asked) r
     → Gives (typed_expr s vars asked w) r
 And_last s vars asked x y at w left right r is found0 found1 done =
     same_gives (typed_expr s vars asked w) (fits (truth at (t.And left.tree right.tree)) asked) r
@@ -192,20 +192,20 @@ And_last s vars asked x y at w left right r is found0 found1 done =
     ∙ goes_on (typed_expr s vars bool x) (λ left. (typed_expr s vars bool y >>= (λ right. fits (truth at (t.And left.tree right.tree)) asked))) left found0
     ∙ goes_on (typed_expr s vars bool y) (λ right. fits (truth at (t.And left.tree right.tree)) asked) right found1) done
 
-pub Or_fault0 : (s : Schema) (vars : List Var) (asked : Option TTy) (x y : Expr) (at : ℕ) (w : Expr) (err : TypeErr) → w ≡ e.Or x y at → (err ≢ OutOfMemory → typed_expr s vars bool x ≡ Err err)
+pub Or_fault0 : (s : Schema) (vars : List Var) (asked : Option TTy) (x y : Expr) (at : ℕ) (w : Expr) (err : TypeErr) → w ≡ e.Or at x y → (err ≢ OutOfMemory → typed_expr s vars bool x ≡ Err err)
     → err ≢ OutOfMemory → typed_expr s vars asked w ≡ Err err
 Or_fault0 s vars asked x y at w err is fault ne =
     (ap (λ z. typed_expr s vars asked z) is ∙ form.Or_is s vars asked x y at)
     ∙ stops (typed_expr s vars bool x) (λ left. (typed_expr s vars bool y >>= (λ right. fits (truth at (t.Or left.tree right.tree)) asked))) err (fault ne)
 
-pub Or_fault1 : (s : Schema) (vars : List Var) (asked : Option TTy) (x y : Expr) (at : ℕ) (w : Expr) (left : Typed) (err : TypeErr) → w ≡ e.Or x y at → typed_expr s vars bool x ≡ Ok left → (err ≢ OutOfMemory → typed_expr s vars bool y ≡ Err err)
+pub Or_fault1 : (s : Schema) (vars : List Var) (asked : Option TTy) (x y : Expr) (at : ℕ) (w : Expr) (left : Typed) (err : TypeErr) → w ≡ e.Or at x y → typed_expr s vars bool x ≡ Ok left → (err ≢ OutOfMemory → typed_expr s vars bool y ≡ Err err)
     → err ≢ OutOfMemory → typed_expr s vars asked w ≡ Err err
 Or_fault1 s vars asked x y at w left err is found0 fault ne =
     (ap (λ z. typed_expr s vars asked z) is ∙ form.Or_is s vars asked x y at)
     ∙ goes_on (typed_expr s vars bool x) (λ left. (typed_expr s vars bool y >>= (λ right. fits (truth at (t.Or left.tree right.tree)) asked))) left found0
     ∙ stops (typed_expr s vars bool y) (λ right. fits (truth at (t.Or left.tree right.tree)) asked) err (fault ne)
 
-pub Or_last : (s : Schema) (vars : List Var) (asked : Option TTy) (x y : Expr) (at : ℕ) (w : Expr) (left : Typed) (right : Typed) (r : Checked Typed) → w ≡ e.Or x y at → typed_expr s vars bool x ≡ Ok left → typed_expr s vars bool y ≡ Ok right → Gives (fits (truth at (t.Or left.tree right.tree)) asked) r
+pub Or_last : (s : Schema) (vars : List Var) (asked : Option TTy) (x y : Expr) (at : ℕ) (w : Expr) (left : Typed) (right : Typed) (r : Checked Typed) → w ≡ e.Or at x y → typed_expr s vars bool x ≡ Ok left → typed_expr s vars bool y ≡ Ok right → Gives (fits (truth at (t.Or left.tree right.tree)) asked) r
     → Gives (typed_expr s vars asked w) r
 Or_last s vars asked x y at w left right r is found0 found1 done =
     same_gives (typed_expr s vars asked w) (fits (truth at (t.Or left.tree right.tree)) asked) r
@@ -213,20 +213,20 @@ Or_last s vars asked x y at w left right r is found0 found1 done =
     ∙ goes_on (typed_expr s vars bool x) (λ left. (typed_expr s vars bool y >>= (λ right. fits (truth at (t.Or left.tree right.tree)) asked))) left found0
     ∙ goes_on (typed_expr s vars bool y) (λ right. fits (truth at (t.Or left.tree right.tree)) asked) right found1) done
 
-pub IfE_fault0 : (s : Schema) (vars : List Var) (asked : Option TTy) (c x y : Expr) (at : ℕ) (w : Expr) (err : TypeErr) → w ≡ e.IfE c x y at → (err ≢ OutOfMemory → typed_expr s vars bool c ≡ Err err)
+pub IfE_fault0 : (s : Schema) (vars : List Var) (asked : Option TTy) (c x y : Expr) (at : ℕ) (w : Expr) (err : TypeErr) → w ≡ e.IfE at c x y → (err ≢ OutOfMemory → typed_expr s vars bool c ≡ Err err)
     → err ≢ OutOfMemory → typed_expr s vars asked w ≡ Err err
 IfE_fault0 s vars asked c x y at w err is fault ne =
     (ap (λ z. typed_expr s vars asked z) is ∙ form.IfE_is s vars asked c x y at)
     ∙ stops (typed_expr s vars bool c) (λ test. (typed_expr s vars asked x >>= (λ one. (typed_expr s vars (Some one.ty) y >>= (λ other. Ok (of_type at one.ty (t.IfE test.tree one.tree other.tree))))))) err (fault ne)
 
-pub IfE_fault1 : (s : Schema) (vars : List Var) (asked : Option TTy) (c x y : Expr) (at : ℕ) (w : Expr) (test : Typed) (err : TypeErr) → w ≡ e.IfE c x y at → typed_expr s vars bool c ≡ Ok test → (err ≢ OutOfMemory → typed_expr s vars asked x ≡ Err err)
+pub IfE_fault1 : (s : Schema) (vars : List Var) (asked : Option TTy) (c x y : Expr) (at : ℕ) (w : Expr) (test : Typed) (err : TypeErr) → w ≡ e.IfE at c x y → typed_expr s vars bool c ≡ Ok test → (err ≢ OutOfMemory → typed_expr s vars asked x ≡ Err err)
     → err ≢ OutOfMemory → typed_expr s vars asked w ≡ Err err
 IfE_fault1 s vars asked c x y at w test err is found0 fault ne =
     (ap (λ z. typed_expr s vars asked z) is ∙ form.IfE_is s vars asked c x y at)
     ∙ goes_on (typed_expr s vars bool c) (λ test. (typed_expr s vars asked x >>= (λ one. (typed_expr s vars (Some one.ty) y >>= (λ other. Ok (of_type at one.ty (t.IfE test.tree one.tree other.tree))))))) test found0
     ∙ stops (typed_expr s vars asked x) (λ one. (typed_expr s vars (Some one.ty) y >>= (λ other. Ok (of_type at one.ty (t.IfE test.tree one.tree other.tree))))) err (fault ne)
 
-pub IfE_fault2 : (s : Schema) (vars : List Var) (asked : Option TTy) (c x y : Expr) (at : ℕ) (w : Expr) (test : Typed) (one : Typed) (err : TypeErr) → w ≡ e.IfE c x y at → typed_expr s vars bool c ≡ Ok test → typed_expr s vars asked x ≡ Ok one → (err ≢ OutOfMemory → typed_expr s vars (Some one.ty) y ≡ Err err)
+pub IfE_fault2 : (s : Schema) (vars : List Var) (asked : Option TTy) (c x y : Expr) (at : ℕ) (w : Expr) (test : Typed) (one : Typed) (err : TypeErr) → w ≡ e.IfE at c x y → typed_expr s vars bool c ≡ Ok test → typed_expr s vars asked x ≡ Ok one → (err ≢ OutOfMemory → typed_expr s vars (Some one.ty) y ≡ Err err)
     → err ≢ OutOfMemory → typed_expr s vars asked w ≡ Err err
 IfE_fault2 s vars asked c x y at w test one err is found0 found1 fault ne =
     (ap (λ z. typed_expr s vars asked z) is ∙ form.IfE_is s vars asked c x y at)
@@ -234,7 +234,7 @@ IfE_fault2 s vars asked c x y at w test one err is found0 found1 fault ne =
     ∙ goes_on (typed_expr s vars asked x) (λ one. (typed_expr s vars (Some one.ty) y >>= (λ other. Ok (of_type at one.ty (t.IfE test.tree one.tree other.tree))))) one found1
     ∙ stops (typed_expr s vars (Some one.ty) y) (λ other. Ok (of_type at one.ty (t.IfE test.tree one.tree other.tree))) err (fault ne)
 
-pub IfE_last : (s : Schema) (vars : List Var) (asked : Option TTy) (c x y : Expr) (at : ℕ) (w : Expr) (test : Typed) (one : Typed) (other : Typed) (r : Checked Typed) → w ≡ e.IfE c x y at → typed_expr s vars bool c ≡ Ok test → typed_expr s vars asked x ≡ Ok one → typed_expr s vars (Some one.ty) y ≡ Ok other → Gives (Ok (of_type at one.ty (t.IfE test.tree one.tree other.tree))) r
+pub IfE_last : (s : Schema) (vars : List Var) (asked : Option TTy) (c x y : Expr) (at : ℕ) (w : Expr) (test : Typed) (one : Typed) (other : Typed) (r : Checked Typed) → w ≡ e.IfE at c x y → typed_expr s vars bool c ≡ Ok test → typed_expr s vars asked x ≡ Ok one → typed_expr s vars (Some one.ty) y ≡ Ok other → Gives (Ok (of_type at one.ty (t.IfE test.tree one.tree other.tree))) r
     → Gives (typed_expr s vars asked w) r
 IfE_last s vars asked c x y at w test one other r is found0 found1 found2 done =
     same_gives (typed_expr s vars asked w) (Ok (of_type at one.ty (t.IfE test.tree one.tree other.tree))) r
@@ -243,20 +243,20 @@ IfE_last s vars asked c x y at w test one other r is found0 found1 found2 done =
     ∙ goes_on (typed_expr s vars asked x) (λ one. (typed_expr s vars (Some one.ty) y >>= (λ other. Ok (of_type at one.ty (t.IfE test.tree one.tree other.tree))))) one found1
     ∙ goes_on (typed_expr s vars (Some one.ty) y) (λ other. Ok (of_type at one.ty (t.IfE test.tree one.tree other.tree))) other found2) done
 
-pub MatchE_fault0 : (s : Schema) (vars : List Var) (asked : Option TTy) (x y : Expr) (v : Named) (z : Expr) (at : ℕ) (w : Expr) (err : TypeErr) → w ≡ e.MatchE x y v z at → (err ≢ OutOfMemory → typed_expr s vars None x ≡ Err err)
+pub MatchE_fault0 : (s : Schema) (vars : List Var) (asked : Option TTy) (x y : Expr) (v : Named) (z : Expr) (at : ℕ) (w : Expr) (err : TypeErr) → w ≡ e.MatchE at x y (v, z) → (err ≢ OutOfMemory → typed_expr s vars None x ≡ Err err)
     → err ≢ OutOfMemory → typed_expr s vars asked w ≡ Err err
 MatchE_fault0 s vars asked x y v z at w err is fault ne =
     (ap (λ z. typed_expr s vars asked z) is ∙ form.MatchE_is s vars asked x y v z at)
     ∙ stops (typed_expr s vars None x) (λ of. (option_of of.ty of.at >>= (λ inside. (typed_expr s vars asked y >>= (λ none. (under vars v (Plain inside) >>= (λ inner. (typed_expr s inner (Some none.ty) z >>= (λ some. Ok (of_type at none.ty (t.MatchE of.tree none.tree v.name some.tree))))))))))) err (fault ne)
 
-pub MatchE_fault1 : (s : Schema) (vars : List Var) (asked : Option TTy) (x y : Expr) (v : Named) (z : Expr) (at : ℕ) (w : Expr) (of : Typed) (err : TypeErr) → w ≡ e.MatchE x y v z at → typed_expr s vars None x ≡ Ok of → (err ≢ OutOfMemory → option_of of.ty of.at ≡ Err err)
+pub MatchE_fault1 : (s : Schema) (vars : List Var) (asked : Option TTy) (x y : Expr) (v : Named) (z : Expr) (at : ℕ) (w : Expr) (of : Typed) (err : TypeErr) → w ≡ e.MatchE at x y (v, z) → typed_expr s vars None x ≡ Ok of → (err ≢ OutOfMemory → option_of of.ty of.at ≡ Err err)
     → err ≢ OutOfMemory → typed_expr s vars asked w ≡ Err err
 MatchE_fault1 s vars asked x y v z at w of err is found0 fault ne =
     (ap (λ z. typed_expr s vars asked z) is ∙ form.MatchE_is s vars asked x y v z at)
     ∙ goes_on (typed_expr s vars None x) (λ of. (option_of of.ty of.at >>= (λ inside. (typed_expr s vars asked y >>= (λ none. (under vars v (Plain inside) >>= (λ inner. (typed_expr s inner (Some none.ty) z >>= (λ some. Ok (of_type at none.ty (t.MatchE of.tree none.tree v.name some.tree))))))))))) of found0
     ∙ stops (option_of of.ty of.at) (λ inside. (typed_expr s vars asked y >>= (λ none. (under vars v (Plain inside) >>= (λ inner. (typed_expr s inner (Some none.ty) z >>= (λ some. Ok (of_type at none.ty (t.MatchE of.tree none.tree v.name some.tree))))))))) err (fault ne)
 
-pub MatchE_fault2 : (s : Schema) (vars : List Var) (asked : Option TTy) (x y : Expr) (v : Named) (z : Expr) (at : ℕ) (w : Expr) (of : Typed) (inside : TBase) (err : TypeErr) → w ≡ e.MatchE x y v z at → typed_expr s vars None x ≡ Ok of → option_of of.ty of.at ≡ Ok inside → (err ≢ OutOfMemory → typed_expr s vars asked y ≡ Err err)
+pub MatchE_fault2 : (s : Schema) (vars : List Var) (asked : Option TTy) (x y : Expr) (v : Named) (z : Expr) (at : ℕ) (w : Expr) (of : Typed) (inside : TBase) (err : TypeErr) → w ≡ e.MatchE at x y (v, z) → typed_expr s vars None x ≡ Ok of → option_of of.ty of.at ≡ Ok inside → (err ≢ OutOfMemory → typed_expr s vars asked y ≡ Err err)
     → err ≢ OutOfMemory → typed_expr s vars asked w ≡ Err err
 MatchE_fault2 s vars asked x y v z at w of inside err is found0 found1 fault ne =
     (ap (λ z. typed_expr s vars asked z) is ∙ form.MatchE_is s vars asked x y v z at)
@@ -264,7 +264,7 @@ MatchE_fault2 s vars asked x y v z at w of inside err is found0 found1 fault ne 
     ∙ goes_on (option_of of.ty of.at) (λ inside. (typed_expr s vars asked y >>= (λ none. (under vars v (Plain inside) >>= (λ inner. (typed_expr s inner (Some none.ty) z >>= (λ some. Ok (of_type at none.ty (t.MatchE of.tree none.tree v.name some.tree))))))))) inside found1
     ∙ stops (typed_expr s vars asked y) (λ none. (under vars v (Plain inside) >>= (λ inner. (typed_expr s inner (Some none.ty) z >>= (λ some. Ok (of_type at none.ty (t.MatchE of.tree none.tree v.name some.tree))))))) err (fault ne)
 
-pub MatchE_fault3 : (s : Schema) (vars : List Var) (asked : Option TTy) (x y : Expr) (v : Named) (z : Expr) (at : ℕ) (w : Expr) (of : Typed) (inside : TBase) (none : Typed) (err : TypeErr) → w ≡ e.MatchE x y v z at → typed_expr s vars None x ≡ Ok of → option_of of.ty of.at ≡ Ok inside → typed_expr s vars asked y ≡ Ok none → (err ≢ OutOfMemory → under vars v (Plain inside) ≡ Err err)
+pub MatchE_fault3 : (s : Schema) (vars : List Var) (asked : Option TTy) (x y : Expr) (v : Named) (z : Expr) (at : ℕ) (w : Expr) (of : Typed) (inside : TBase) (none : Typed) (err : TypeErr) → w ≡ e.MatchE at x y (v, z) → typed_expr s vars None x ≡ Ok of → option_of of.ty of.at ≡ Ok inside → typed_expr s vars asked y ≡ Ok none → (err ≢ OutOfMemory → under vars v (Plain inside) ≡ Err err)
     → err ≢ OutOfMemory → typed_expr s vars asked w ≡ Err err
 MatchE_fault3 s vars asked x y v z at w of inside none err is found0 found1 found2 fault ne =
     (ap (λ z. typed_expr s vars asked z) is ∙ form.MatchE_is s vars asked x y v z at)
@@ -273,7 +273,7 @@ MatchE_fault3 s vars asked x y v z at w of inside none err is found0 found1 foun
     ∙ goes_on (typed_expr s vars asked y) (λ none. (under vars v (Plain inside) >>= (λ inner. (typed_expr s inner (Some none.ty) z >>= (λ some. Ok (of_type at none.ty (t.MatchE of.tree none.tree v.name some.tree))))))) none found2
     ∙ stops (under vars v (Plain inside)) (λ inner. (typed_expr s inner (Some none.ty) z >>= (λ some. Ok (of_type at none.ty (t.MatchE of.tree none.tree v.name some.tree))))) err (fault ne)
 
-pub MatchE_fault4 : (s : Schema) (vars : List Var) (asked : Option TTy) (x y : Expr) (v : Named) (z : Expr) (at : ℕ) (w : Expr) (of : Typed) (inside : TBase) (none : Typed) (inner : List Var) (err : TypeErr) → w ≡ e.MatchE x y v z at → typed_expr s vars None x ≡ Ok of → option_of of.ty of.at ≡ Ok inside → typed_expr s vars asked y ≡ Ok none → under vars v (Plain inside) ≡ Ok inner → (err ≢ OutOfMemory → typed_expr s inner (Some none.ty) z ≡ Err err)
+pub MatchE_fault4 : (s : Schema) (vars : List Var) (asked : Option TTy) (x y : Expr) (v : Named) (z : Expr) (at : ℕ) (w : Expr) (of : Typed) (inside : TBase) (none : Typed) (inner : List Var) (err : TypeErr) → w ≡ e.MatchE at x y (v, z) → typed_expr s vars None x ≡ Ok of → option_of of.ty of.at ≡ Ok inside → typed_expr s vars asked y ≡ Ok none → under vars v (Plain inside) ≡ Ok inner → (err ≢ OutOfMemory → typed_expr s inner (Some none.ty) z ≡ Err err)
     → err ≢ OutOfMemory → typed_expr s vars asked w ≡ Err err
 MatchE_fault4 s vars asked x y v z at w of inside none inner err is found0 found1 found2 found3 fault ne =
     (ap (λ z. typed_expr s vars asked z) is ∙ form.MatchE_is s vars asked x y v z at)
@@ -283,7 +283,7 @@ MatchE_fault4 s vars asked x y v z at w of inside none inner err is found0 found
     ∙ goes_on (under vars v (Plain inside)) (λ inner. (typed_expr s inner (Some none.ty) z >>= (λ some. Ok (of_type at none.ty (t.MatchE of.tree none.tree v.name some.tree))))) inner found3
     ∙ stops (typed_expr s inner (Some none.ty) z) (λ some. Ok (of_type at none.ty (t.MatchE of.tree none.tree v.name some.tree))) err (fault ne)
 
-pub MatchE_last : (s : Schema) (vars : List Var) (asked : Option TTy) (x y : Expr) (v : Named) (z : Expr) (at : ℕ) (w : Expr) (of : Typed) (inside : TBase) (none : Typed) (inner : List Var) (some : Typed) (r : Checked Typed) → w ≡ e.MatchE x y v z at → typed_expr s vars None x ≡ Ok of → option_of of.ty of.at ≡ Ok inside → typed_expr s vars asked y ≡ Ok none → under vars v (Plain inside) ≡ Ok inner → typed_expr s inner (Some none.ty) z ≡ Ok some → Gives (Ok (of_type at none.ty (t.MatchE of.tree none.tree v.name some.tree))) r
+pub MatchE_last : (s : Schema) (vars : List Var) (asked : Option TTy) (x y : Expr) (v : Named) (z : Expr) (at : ℕ) (w : Expr) (of : Typed) (inside : TBase) (none : Typed) (inner : List Var) (some : Typed) (r : Checked Typed) → w ≡ e.MatchE at x y (v, z) → typed_expr s vars None x ≡ Ok of → option_of of.ty of.at ≡ Ok inside → typed_expr s vars asked y ≡ Ok none → under vars v (Plain inside) ≡ Ok inner → typed_expr s inner (Some none.ty) z ≡ Ok some → Gives (Ok (of_type at none.ty (t.MatchE of.tree none.tree v.name some.tree))) r
     → Gives (typed_expr s vars asked w) r
 MatchE_last s vars asked x y v z at w of inside none inner some r is found0 found1 found2 found3 found4 done =
     same_gives (typed_expr s vars asked w) (Ok (of_type at none.ty (t.MatchE of.tree none.tree v.name some.tree))) r

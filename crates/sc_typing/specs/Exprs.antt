@@ -51,47 +51,47 @@ module _ (s : Schema) where
   -- ---- one level of an expression, of which the parts are typed
 
   abbrev pub expr_layer : Expr-F ExprTyping ItemTyping SetTyping FilterTyping → ExprTyping
-  expr_layer (Expr-F.Flag value at) vars asked = fits (truth at (t.Flag value)) asked
-  expr_layer (Expr-F.Num value at) vars asked = fits (of_type at (Plain base.Int) (t.Num value)) asked
-  expr_layer (Expr-F.Str text at) vars asked = fits (of_type at (Plain base.Text) (t.Str text)) asked
-  expr_layer (Expr-F.Var x at) vars asked =
+  expr_layer (Expr-F.Flag at value) vars asked = fits (truth at (t.Flag value)) asked
+  expr_layer (Expr-F.Num at value) vars asked = fits (of_type at (Plain base.Int) (t.Num value)) asked
+  expr_layer (Expr-F.Str at text) vars asked = fits (of_type at (Plain base.Text) (t.Str text)) asked
+  expr_layer (Expr-F.Var at x) vars asked =
       or_else (var_named vars x.name) (Unknown x.at) >>= (λ var. fits (of_type at var.1 (t.Var var.0 x.name)) asked)
   expr_layer (Expr-F.NoneLit at) vars asked = none_of asked at
-  expr_layer (Expr-F.SomeLit e at) vars asked = do
+  expr_layer (Expr-F.SomeLit at e) vars asked = do
     inner ← e vars (inner_asked asked)
     b ← base_of inner.ty inner.at
     fits (of_type at (Opt b) (t.SomeLit inner.tree)) asked
-  expr_layer (Expr-F.Get e f at) vars asked = do
+  expr_layer (Expr-F.Get at e f) vars asked = do
     of ← e vars None
     field ← field_of_record s of.ty of.at f
     fits (of_type at field.2 (t.Get of.tree field.0 field.1)) asked
-  expr_layer (Expr-F.Cmp op a b at) vars asked = do
+  expr_layer (Expr-F.Cmp at op a b) vars asked = do
     left ← a vars (left_asked op)
     by ← base_of left.ty left.at
     right ← b vars (Some left.ty)
     fits (truth at (compared op by left.tree right.tree)) asked
-  expr_layer (Expr-F.Member e set at) vars asked = do
+  expr_layer (Expr-F.Member at e set) vars asked = do
     of ← e vars None
     m ← id_of of.ty of.at
     all ← set.type vars (Records m)
     fits (truth at (t.Member of.tree m all)) asked
-  expr_layer (Expr-F.Not e at) vars asked = do
+  expr_layer (Expr-F.Not at e) vars asked = do
     inner ← e vars bool
     fits (truth at (t.Not inner.tree)) asked
-  expr_layer (Expr-F.And a b at) vars asked = do
+  expr_layer (Expr-F.And at a b) vars asked = do
     left ← a vars bool
     right ← b vars bool
     fits (truth at (t.And left.tree right.tree)) asked
-  expr_layer (Expr-F.Or a b at) vars asked = do
+  expr_layer (Expr-F.Or at a b) vars asked = do
     left ← a vars bool
     right ← b vars bool
     fits (truth at (t.Or left.tree right.tree)) asked
-  expr_layer (Expr-F.IfE c a b at) vars asked = do
+  expr_layer (Expr-F.IfE at c a b) vars asked = do
     test ← c vars bool
     one ← a vars asked
     other ← b vars (Some one.ty)
     Ok (of_type at one.ty (t.IfE test.tree one.tree other.tree))
-  expr_layer (Expr-F.MatchE e a x b at) vars asked = do
+  expr_layer (Expr-F.MatchE at e a (x, b)) vars asked = do
     of ← e vars None
     inside ← option_of of.ty of.at
     none ← a vars asked
@@ -122,61 +122,61 @@ module _ (s : Schema) where
 
   -- What `map` and `flat_map` may go over: records of one model. A chain is placed at its first token, inside its parentheses. Nothing else is spelled before them.
   abbrev pub source_layer : SetExpr-F ExprTyping ItemTyping SetTyping FilterTyping → List Var → Checked Source
-  source_layer (SetExpr-F.Everyone word at) vars = Err (WrongType at)
+  source_layer (SetExpr-F.Everyone at word) vars = Err (WrongType at)
   source_layer (SetExpr-F.Nobody at) vars = Err (WrongType at)
-  source_layer (SetExpr-F.List items at) vars = Err (WrongType at)
-  source_layer (SetExpr-F.Sum a b at) vars = Err (WrongType at)
-  source_layer (SetExpr-F.Less a b at) vars = Err (WrongType at)
-  source_layer (SetExpr-F.Find model filters at) vars = do
+  source_layer (SetExpr-F.List at items) vars = Err (WrongType at)
+  source_layer (SetExpr-F.Sum at a b) vars = Err (WrongType at)
+  source_layer (SetExpr-F.Less at a b) vars = Err (WrongType at)
+  source_layer (SetExpr-F.Find at model filters) vars = do
     m ← or_else (model_named s model.name) (Unknown model.at)
     tests ← all_checked (map (λ (f : FilterTyping). f vars m) filters)
     Ok (source model.at m (ts.Find m tests))
-  source_layer (SetExpr-F.Path e at) vars = do
+  source_layer (SetExpr-F.Path at e) vars = do
     of ← e vars None
     m ← set_of_ids of.ty of.at
     Ok (source of.at m (ts.Path m of.tree))
-  source_layer (SetExpr-F.MapS of x e at) vars = do
+  source_layer (SetExpr-F.MapS at of x e) vars = do
     over ← of.source vars
     inner ← under vars x (Plain (base.Id over.model))
     each ← e inner None
     m ← id_of each.ty each.at
     Ok (source over.at m (ts.MapS over.set over.model x.name m each.tree))
-  source_layer (SetExpr-F.FlatS of x set at) vars = Err (WrongType at)
-  source_layer (SetExpr-F.IfS c a b at) vars = Err (WrongType at)
-  source_layer (SetExpr-F.MatchS e a x b at) vars = Err (WrongType at)
+  source_layer (SetExpr-F.FlatS at of x set) vars = Err (WrongType at)
+  source_layer (SetExpr-F.IfS at c a b) vars = Err (WrongType at)
+  source_layer (SetExpr-F.MatchS at e a x b) vars = Err (WrongType at)
 
   -- a chain that holds records of one model, where this content is asked
   abbrev pub chain : Checked Source → Content → Checked TSet
   chain source content = source >>= (λ of. may_hold s content of.model of.at >>= (λ _. Ok of.set))
 
   abbrev pub content_layer : SetExpr-F ExprTyping ItemTyping SetTyping FilterTyping → List Var → Content → Checked TSet
-  content_layer (SetExpr-F.Everyone word at) vars content = among_principals content word >>= (λ _. Ok ts.Everyone)
+  content_layer (SetExpr-F.Everyone at word) vars content = among_principals content word >>= (λ _. Ok ts.Everyone)
   content_layer (SetExpr-F.Nobody at) vars content = Ok ts.Nobody
-  content_layer (SetExpr-F.List items at) vars content =
+  content_layer (SetExpr-F.List at items) vars content =
       all_checked (map (λ (item : ItemTyping). item vars content) items) >>= (λ all. Ok (ts.List all))
-  content_layer (SetExpr-F.Sum a b at) vars content = do
+  content_layer (SetExpr-F.Sum at a b) vars content = do
     left ← a.type vars content
     right ← b.type vars content
     Ok (ts.Sum left right)
-  content_layer (SetExpr-F.Less a b at) vars content = do
+  content_layer (SetExpr-F.Less at a b) vars content = do
     left ← a.type vars content
     right ← b.type vars content
     Ok (ts.Less left right)
-  content_layer (SetExpr-F.Find model filters at) vars content =
-      chain (source_layer (SetExpr-F.Find model filters at) vars) content
-  content_layer (SetExpr-F.Path e at) vars content = chain (source_layer (SetExpr-F.Path e at) vars) content
-  content_layer (SetExpr-F.MapS of x e at) vars content = chain (source_layer (SetExpr-F.MapS of x e at) vars) content
-  content_layer (SetExpr-F.FlatS of x set at) vars content = do
+  content_layer (SetExpr-F.Find at model filters) vars content =
+      chain (source_layer (SetExpr-F.Find at model filters) vars) content
+  content_layer (SetExpr-F.Path at e) vars content = chain (source_layer (SetExpr-F.Path at e) vars) content
+  content_layer (SetExpr-F.MapS at of x e) vars content = chain (source_layer (SetExpr-F.MapS at of x e) vars) content
+  content_layer (SetExpr-F.FlatS at of x set) vars content = do
     over ← of.source vars
     inner ← under vars x (Plain (base.Id over.model))
     each ← set.type inner content
     Ok (ts.FlatS over.set over.model x.name each)
-  content_layer (SetExpr-F.IfS c a b at) vars content = do
+  content_layer (SetExpr-F.IfS at c a b) vars content = do
     test ← c vars bool
     one ← a.type vars content
     other ← b.type vars content
     Ok (ts.IfS test.tree one other)
-  content_layer (SetExpr-F.MatchS e a x b at) vars content = do
+  content_layer (SetExpr-F.MatchS at e a x b) vars content = do
     of ← e vars None
     inside ← option_of of.ty of.at
     none ← a.type vars content

@@ -58,10 +58,10 @@ named name at = record { name = name; at = at }
 
 -- the variable u at this offset, and a field of it
 abbrev pub u_at : ℕ → Expr
-u_at at = e.Var (named (codes "u") at) at
+u_at at = e.Var at (named (codes "u") at)
 
 abbrev pub field_of_u : List ℕ → ℕ → ℕ → Expr
-field_of_u name u at = e.Get (u_at u) (named name at) u
+field_of_u name u at = e.Get u (u_at u) (named name at)
 
 -- the variable u, which is a record of the model
 abbrev pub u_of : ℕ → List Var
@@ -78,36 +78,36 @@ pub record WorkedTypes : Type 0 where
   -- u.email, where a number is asked
   pub another_type : typed_expr app (u_of 0) (Some int) (field_of_u (codes "email") 56 58) ≡ Err (WrongType 56)
   -- w
-  pub unknown_variable : typed_expr app (u_of 0) None (e.Var (named (codes "w") 7) 6) ≡ Err (Unknown 7)
+  pub unknown_variable : typed_expr app (u_of 0) None (e.Var 6 (named (codes "w") 7)) ≡ Err (Unknown 7)
   -- none, where nothing is asked
   pub none_alone : typed_expr app (u_of 0) None (e.NoneLit 9) ≡ Err (WrongType 9)
   -- some(true), where an option of numbers is asked: its part is asked for a number
-  pub part_of_some : typed_expr app [] (Some (Opt base.Int)) (e.SomeLit (e.Flag true 75) 70) ≡ Err (WrongType 75)
+  pub part_of_some : typed_expr app [] (Some (Opt base.Int)) (e.SomeLit 70 (e.Flag 75 true)) ≡ Err (WrongType 75)
   -- u.age != u.age is not an equality
   pub unequal :
-      typed_expr app (u_of 0) None (e.Cmp Ne (field_of_u (codes "age") 0 2) (field_of_u (codes "age") 9 11) 0)
+      typed_expr app (u_of 0) None (e.Cmp 0 Ne (field_of_u (codes "age") 0 2) (field_of_u (codes "age") 9 11))
       ≡ Ok (of_type 0 (Plain base.Bool) (t.Not (t.Eq (t.Get (t.Var 0 (codes "u")) 0 1) (t.Get (t.Var 0 (codes "u")) 0 1) Ne)))
   -- u.age > u.email: the first fault is that of the right side
   pub order_of_text :
-      typed_expr app (u_of 0) None (e.Cmp Gt (field_of_u (codes "age") 0 2) (field_of_u (codes "email") 8 10) 0) ≡ Err (WrongType 8)
+      typed_expr app (u_of 0) None (e.Cmp 0 Gt (field_of_u (codes "age") 0 2) (field_of_u (codes "email") 8 10)) ≡ Err (WrongType 8)
   -- match some(true) with none -> false | some u -> u
   pub variable_hides_none :
-      typed_expr app (u_of 0) None (e.MatchE (e.SomeLit (e.Flag true 11) 6) (e.Flag false 30) (named (codes "u") 43) (u_at 48) 0) ≡ Err (Twice 43)
+      typed_expr app (u_of 0) None (e.MatchE 0 (e.SomeLit 6 (e.Flag 11 true)) (e.Flag 30 false) (named (codes "u") 43, u_at 48)) ≡ Err (Twice 43)
   -- [u], where u is a user and where u is a note
   pub principal_is_listed :
-      typed_set app (u_of 0) Principals (s.List (item.One (u_at 44) ∷ []) 43) ≡ Ok (ts.List (ti.One 0 (t.Var 0 (codes "u")) ∷ []))
-  pub note_is_no_principal : typed_set app (u_of 1) Principals (s.List (item.One (u_at 44) ∷ []) 43) ≡ Err (NotPrincipal 44)
+      typed_set app (u_of 0) Principals (s.List 43 (item.One (u_at 44) ∷ [])) ≡ Ok (ts.List (ti.One 0 (t.Var 0 (codes "u")) ∷ []))
+  pub note_is_no_principal : typed_set app (u_of 1) Principals (s.List 43 (item.One (u_at 44) ∷ [])) ≡ Err (NotPrincipal 44)
   -- [Visitor], where principals are asked and where users are
-  pub static_is_listed : typed_set app [] Principals (s.List (item.Static (named (codes "Visitor") 3) ∷ []) 2) ≡ Ok (ts.List (ti.Static 0 ∷ []))
-  pub static_is_no_record : typed_set app [] (Records 0) (s.List (item.Static (named (codes "Visitor") 3) ∷ []) 2) ≡ Err (WrongType 3)
+  pub static_is_listed : typed_set app [] Principals (s.List 2 (item.Static (named (codes "Visitor") 3) ∷ [])) ≡ Ok (ts.List (ti.Static 0 ∷ []))
+  pub static_is_no_record : typed_set app [] (Records 0) (s.List 2 (item.Static (named (codes "Visitor") 3) ∷ [])) ≡ Err (WrongType 3)
   -- Note::Find({}) in parentheses, in a policy: the fault stands at the chain
-  pub notes_are_no_principals : typed_set app [] Principals (s.Find (named (codes "Note") 6) [] 5) ≡ Err (NotPrincipal 6)
+  pub notes_are_no_principals : typed_set app [] Principals (s.Find 5 (named (codes "Note") 6) []) ≡ Err (NotPrincipal 6)
   -- Note::Find({body > true}): the sign does not fit the field
   pub sign_of_filter :
-      typed_set app [] (Records 1) (s.Find (named (codes "Note") 6) ((record { field = named (codes "body") 18; op = Cmp Gt; value = e.Flag true 25 }) ∷ []) 6)
+      typed_set app [] (Records 1) (s.Find 6 (named (codes "Note") 6) ((record { field = named (codes "body") 18; op = Cmp Gt; value = e.Flag 25 true }) ∷ []))
       ≡ Err (WrongType 18)
   -- User::Find({}).map(x -> x.age): no id
   pub map_needs_ids :
       typed_set app [] Principals
-      (s.MapS (s.Find (named (codes "User") 0) [] 0) (named (codes "x") 19) (e.Get (e.Var (named (codes "x") 24) 24) (named (codes "age") 26) 24) 0)
+      (s.MapS 0 (s.Find 0 (named (codes "User") 0) []) (named (codes "x") 19) (e.Get 24 (e.Var 24 (named (codes "x") 24)) (named (codes "age") 26)))
       ≡ Err (WrongType 24)

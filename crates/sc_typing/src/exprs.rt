@@ -37,8 +37,8 @@ pub fn typed_expr(
     ensures { Gives (spec.typed_expr (plain_of schema.now) vars.now asked e.now) result }
 {
     match e {
-        Expr::Flag(value, at) => fit(alloc, asked, *at, BOOL, TExpr::Flag(*value)),
-        Expr::Num(value, at) => {
+        Expr::Flag(at, value) => fit(alloc, asked, *at, BOOL, TExpr::Flag(*value)),
+        Expr::Num(at, value) => {
             fit(
                 alloc,
                 asked,
@@ -47,55 +47,56 @@ pub fn typed_expr(
                 TExpr::Num(*value),
             )
         }
-        Expr::Str(text, at) => text_of(alloc, asked, *at, text),
-        Expr::Var(x, at) => variable(alloc, vars, asked, *at, x),
+        Expr::Str(at, text) => text_of(alloc, asked, *at, text.get()),
+        Expr::Var(at, x) => variable(alloc, vars, asked, *at, x),
         Expr::NoneLit(at) => none_of(alloc, asked, *at),
-        Expr::SomeLit(e, at) => {
+        Expr::SomeLit(at, e) => {
             let inner = typed_expr(alloc, schema, vars, inner_asked(asked), e.get())?;
             just(alloc, asked, *at, inner)
         }
-        Expr::Get(e, field, at) => {
+        Expr::Get(at, e, field) => {
             let of = typed_expr(alloc, schema, vars, None, e.get())?;
-            field_of(alloc, schema, asked, *at, of, field)
+            field_of(alloc, schema, asked, *at, of, field.get())
         }
-        Expr::Cmp(op, a, b, at) => {
+        Expr::Cmp(at, op, a, b) => {
             let left = typed_expr(alloc, schema, vars, left_asked(*op), a.get())?;
             let base = base_of(left.ty, left.at)?;
             let right = typed_expr(alloc, schema, vars, Some(left.ty), b.get())?;
             comparison(alloc, asked, *at, *op, base, left, right)
         }
-        Expr::Member(e, set, at) => {
+        Expr::Member(at, e, set) => {
             let of = typed_expr(alloc, schema, vars, None, e.get())?;
             let model = id_of(of.ty, of.at)?;
             let set = typed_set(alloc, schema, vars, Content::Records(model), set.get())?;
             within(alloc, asked, *at, of, model, set)
         }
-        Expr::Not(e, at) => {
+        Expr::Not(at, e) => {
             let inner = typed_expr(alloc, schema, vars, Some(BOOL), e.get())?;
             negation(alloc, asked, *at, inner)
         }
-        Expr::And(a, b, at) => {
+        Expr::And(at, a, b) => {
             let left = typed_expr(alloc, schema, vars, Some(BOOL), a.get())?;
             let right = typed_expr(alloc, schema, vars, Some(BOOL), b.get())?;
             both(alloc, asked, *at, left, right)
         }
-        Expr::Or(a, b, at) => {
+        Expr::Or(at, a, b) => {
             let left = typed_expr(alloc, schema, vars, Some(BOOL), a.get())?;
             let right = typed_expr(alloc, schema, vars, Some(BOOL), b.get())?;
             either(alloc, asked, *at, left, right)
         }
-        Expr::IfE(c, a, b, at) => {
+        Expr::IfE(at, c, a, b) => {
             let test = typed_expr(alloc, schema, vars, Some(BOOL), c.get())?;
             let one = typed_expr(alloc, schema, vars, asked, a.get())?;
             let other = typed_expr(alloc, schema, vars, Some(one.ty), b.get())?;
             choice(alloc, *at, test, one, other)
         }
-        Expr::MatchE(e, a, x, b, at) => {
+        Expr::MatchE(at, e, a, branch) => {
+            let (x, b) = branch.get();
             let of = typed_expr(alloc, schema, vars, None, e.get())?;
             let inside = option_of(of.ty, of.at)?;
             let none = typed_expr(alloc, schema, vars, asked, a.get())?;
             let inner = under(alloc, vars, x, TTy::Plain(inside))?;
-            let some = typed_expr(alloc, schema, inner.as_slice(), Some(none.ty), b.get())?;
+            let some = typed_expr(alloc, schema, inner.as_slice(), Some(none.ty), b)?;
             cases(alloc, *at, of, none, x, some)
         }
     }
@@ -113,48 +114,50 @@ pub fn typed_set(
     ensures { Gives (spec.typed_set (plain_of schema.now) vars.now content set.now) result }
 {
     match set {
-        SetExpr::Everyone(word, _) => everyone(alloc, content, *word),
+        SetExpr::Everyone(_, word) => everyone(alloc, content, *word),
         SetExpr::Nobody(_) => boxed(alloc, TSet::Nobody),
-        SetExpr::List(items, _) => {
+        SetExpr::List(_, items) => {
             let items = typed_items(alloc, schema, vars, content, items.as_slice())?;
             boxed(alloc, TSet::List(items))
         }
-        SetExpr::Sum(a, b, _) => {
+        SetExpr::Sum(_, a, b) => {
             let left = typed_set(alloc, schema, vars, content, a.get())?;
             let right = typed_set(alloc, schema, vars, content, b.get())?;
             boxed(alloc, TSet::Sum(left, right))
         }
-        SetExpr::Less(a, b, _) => {
+        SetExpr::Less(_, a, b) => {
             let left = typed_set(alloc, schema, vars, content, a.get())?;
             let right = typed_set(alloc, schema, vars, content, b.get())?;
             boxed(alloc, TSet::Less(left, right))
         }
-        SetExpr::Find(_, _, _) => {
+        SetExpr::Find(..) => {
             let of = typed_source(alloc, schema, vars, set)?;
             chain(schema, content, of)
         }
-        SetExpr::Path(_, _) => {
+        SetExpr::Path(..) => {
             let of = typed_source(alloc, schema, vars, set)?;
             chain(schema, content, of)
         }
-        SetExpr::MapS(_, _, _, _) => {
+        SetExpr::MapS(..) => {
             let of = typed_source(alloc, schema, vars, set)?;
             chain(schema, content, of)
         }
-        SetExpr::FlatS(of, x, each, _) => {
+        SetExpr::FlatS(_, of, x, each) => {
             let over = typed_source(alloc, schema, vars, of.get())?;
+            let x = x.get();
             let inner = under(alloc, vars, x, TTy::Plain(TBase::Id(over.model)))?;
             let each = typed_set(alloc, schema, inner.as_slice(), content, each.get())?;
             flat_mapped(alloc, over, x, each)
         }
-        SetExpr::IfS(c, a, b, _) => {
-            let test = typed_expr(alloc, schema, vars, Some(BOOL), c)?;
+        SetExpr::IfS(_, c, a, b) => {
+            let test = typed_expr(alloc, schema, vars, Some(BOOL), c.get())?;
             let one = typed_set(alloc, schema, vars, content, a.get())?;
             let other = typed_set(alloc, schema, vars, content, b.get())?;
             choice_of_sets(alloc, test, one, other)
         }
-        SetExpr::MatchS(e, a, x, b, _) => {
-            let of = typed_expr(alloc, schema, vars, None, e)?;
+        SetExpr::MatchS(_, e, a, x, b) => {
+            let x = x.get();
+            let of = typed_expr(alloc, schema, vars, None, e.get())?;
             let inside = option_of(of.ty, of.at)?;
             let none = typed_set(alloc, schema, vars, content, a.get())?;
             let inner = under(alloc, vars, x, TTy::Plain(inside))?;
@@ -175,29 +178,31 @@ fn typed_source(
     ensures { Gives (spec.typed_source (plain_of schema.now) vars.now set.now) result }
 {
     match set {
-        SetExpr::Find(model, filters, _) => {
+        SetExpr::Find(_, model, filters) => {
+            let model = model.get();
             let number = typed_model(schema, model)?;
             let filters = typed_filters(alloc, schema, vars, number, filters.as_slice())?;
             found(alloc, model.at, number, filters)
         }
-        SetExpr::Path(e, _) => {
+        SetExpr::Path(_, e) => {
             let of = typed_expr(alloc, schema, vars, None, e)?;
             path(alloc, of)
         }
-        SetExpr::MapS(of, x, e, _) => {
+        SetExpr::MapS(_, of, x, e) => {
             let over = typed_source(alloc, schema, vars, of.get())?;
+            let x = x.get();
             let inner = under(alloc, vars, x, TTy::Plain(TBase::Id(over.model)))?;
-            let each = typed_expr(alloc, schema, inner.as_slice(), None, e)?;
+            let each = typed_expr(alloc, schema, inner.as_slice(), None, e.get())?;
             mapped(alloc, over, x, each)
         }
-        SetExpr::Everyone(_, at) => Err(TypeErr::WrongType { at: *at }),
+        SetExpr::Everyone(at, _) => Err(TypeErr::WrongType { at: *at }),
         SetExpr::Nobody(at) => Err(TypeErr::WrongType { at: *at }),
-        SetExpr::List(_, at) => Err(TypeErr::WrongType { at: *at }),
-        SetExpr::Sum(_, _, at) => Err(TypeErr::WrongType { at: *at }),
-        SetExpr::Less(_, _, at) => Err(TypeErr::WrongType { at: *at }),
-        SetExpr::FlatS(_, _, _, at) => Err(TypeErr::WrongType { at: *at }),
-        SetExpr::IfS(_, _, _, at) => Err(TypeErr::WrongType { at: *at }),
-        SetExpr::MatchS(_, _, _, _, at) => Err(TypeErr::WrongType { at: *at }),
+        SetExpr::List(at, _) => Err(TypeErr::WrongType { at: *at }),
+        SetExpr::Sum(at, _, _) => Err(TypeErr::WrongType { at: *at }),
+        SetExpr::Less(at, _, _) => Err(TypeErr::WrongType { at: *at }),
+        SetExpr::FlatS(at, _, _, _) => Err(TypeErr::WrongType { at: *at }),
+        SetExpr::IfS(at, _, _, _) => Err(TypeErr::WrongType { at: *at }),
+        SetExpr::MatchS(at, _, _, _, _) => Err(TypeErr::WrongType { at: *at }),
     }
 }
 

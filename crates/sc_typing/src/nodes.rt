@@ -1,6 +1,6 @@
 //! Typed expressions, of their typed parts.
 
-ghost use Rattle.std.specs.Prelude.{Ok};
+ghost use Rattle.std.specs.Prelude.{◌≡◌, IfOk, Ok};
 ghost use Rattle.sc_schema.specs.declared.types.TBase.TheVariants as base;
 ghost use Rattle.sc_schema.specs.declared.types.TTy.TheVariants.{Plain, Opt};
 ghost use Rattle.sc_schema.specs.declared.trees.TExpr.TheVariants as t;
@@ -15,11 +15,11 @@ use crate::asked::{Typed, base_of, field_of_record, same_type};
 use crate::compared::compared;
 use crate::type_err::TypeErr;
 use crate::vars::{Var, var_named};
-use sc_ast::Txt;
+use sc_ast::{Name, Txt};
 use sc_schema::{ModelNo, Schema, TBase, TExpr, TSet, TTy};
 use sc_tree::{CmpOp, Named};
 use sqlite_items::Boxed;
-use std::alloc::Global;
+use std::alloc::{AllocError, Global};
 
 /// An expression of this type, where its place asks for nothing else.
 #[tactic(auto, unfolding(crate::specs::Asked::fits))]
@@ -208,6 +208,14 @@ pub fn choice(
     made(alloc, at, ty, tree)
 }
 
+/// The name in a box.
+pub fn boxed_name(alloc: Global, x: &Named) -> Result<Boxed<Name>, AllocError>
+    ensures { IfOk result (λ name. name ≡ x.now.name) }
+{
+    let name = x.name.copy(alloc)?;
+    Boxed::new(alloc, name)
+}
+
 /// `match e with none -> a | some x -> b`.
 pub fn cases(
     alloc: Global,
@@ -221,7 +229,7 @@ pub fn cases(
         (Ok (spec.of_type at none.ty (t.MatchE of.tree none.tree x.now.name some.tree))) result }
 {
     let ty = none.ty;
-    let name = x.name.copy(alloc)?;
+    let name = boxed_name(alloc, x)?;
     let tree = TExpr::MatchE(of.into_tree(), none.into_tree(), name, some.into_tree());
     made(alloc, at, ty, tree)
 }

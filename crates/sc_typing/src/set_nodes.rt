@@ -11,6 +11,7 @@ ghost use Rattle.sc_typing.specs.declared.type_err.TypeErr.TheVariants.{Unknown}
 
 use crate::asked::{Content, Source, Typed, among_principals, id_of, may_hold, set_of_ids};
 use crate::names::static_named;
+use crate::nodes::boxed_name;
 use crate::type_err::TypeErr;
 use sc_schema::{ModelNo, Schema, TFilter, TItem, TSet};
 use sc_tree::Named;
@@ -52,7 +53,7 @@ pub fn choice_of_sets(
 ) -> Result<Boxed<TSet>, TypeErr>
     ensures { Gives (Ok (ts.IfS test.tree one other)) result }
 {
-    boxed(alloc, TSet::IfS(test.into_tree().into_inner(), one, other))
+    boxed(alloc, TSet::IfS(test.into_tree(), one, other))
 }
 
 /// `match e with none -> S | some x -> T`.
@@ -65,11 +66,8 @@ pub fn set_cases(
 ) -> Result<Boxed<TSet>, TypeErr>
     ensures { Gives (Ok (ts.MatchS of.tree none x.now.name some)) result }
 {
-    let name = x.name.copy(alloc)?;
-    boxed(
-        alloc,
-        TSet::MatchS(of.into_tree().into_inner(), none, name, some),
-    )
+    let name = boxed_name(alloc, x)?;
+    boxed(alloc, TSet::MatchS(of.into_tree(), none, name, some))
 }
 
 /// `S.flat_map(x -> T)`.
@@ -81,7 +79,7 @@ pub fn flat_mapped(
 ) -> Result<Boxed<TSet>, TypeErr>
     ensures { Gives (Ok (ts.FlatS over.set over.model x.now.name each)) result }
 {
-    let name = x.name.copy(alloc)?;
+    let name = boxed_name(alloc, x)?;
     let Source { model, set, .. } = over;
     boxed(alloc, TSet::FlatS(set, model, name, each))
 }
@@ -129,13 +127,13 @@ pub fn mapped(alloc: Global, over: Source, x: &Named, each: Typed) -> Result<Sou
         Ok (spec.source over.at m (ts.MapS over.set over.model x.now.name m each.tree)))) result }
 {
     let model = id_of(each.ty, each.at)?;
-    let name = x.name.copy(alloc)?;
+    let name = boxed_name(alloc, x)?;
     let Source {
         at,
         model: source,
         set,
     } = over;
-    let each = each.into_tree().into_inner();
+    let each = each.into_tree();
     source_of(alloc, at, model, TSet::MapS(set, source, name, model, each))
 }
 

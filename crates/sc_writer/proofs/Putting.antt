@@ -1,9 +1,10 @@
 -- Terms and formulas that go into an arena.
-use Rattle.std.proofs.Common.{◌≡◌, ℕ, ◌<◌, Bool, true, false, refl, sym, ◌∙◌, List, Some, length, ap, subst}
+use Rattle.std.proofs.Common.{◌≡◌, ℕ, Bool, true, false, refl, sym, ◌∙◌, List, Some, ap, subst}
 use Rattle.std.specs.Prelude.{Result, Ok, Err, IfOk}
 use Rattle.sc_formula.specs.declared.node.Node.{Node}
-use Rattle.sc_formula.specs.Trees.{Term, Formula}
-use Rattle.sc_formula.specs.Nodes.{kind_at, tree_of, trees_of, tree_from, term_part, formula_part, is_term, term_of, formula_of}
+use Rattle.sc_formula.specs.declared.node.Node.TheVariants.{App}
+use Rattle.sc_formula.specs.Trees.{Term, Formula, app}
+use Rattle.sc_formula.specs.Nodes.{trees_of, tree_from, term_part, formula_part, is_term, term_of, formula_of}
 use Rattle.sc_duty.specs.Cases.{atom}
 use Rattle.sc_formula.specs.Added.{IsAdded}
 use Rattle.sc_formula.proofs.Placement.{kind_within}
@@ -45,6 +46,9 @@ set_ok old node new f r means term h = ok_map r (λ id. set_added old node new f
 pub put_later : {E : Type 0} (a b c : List Node) (t : Term) (r : Result ℕ E) → Keeps a b → IfOk r (IsPut b c t) → IfOk r (IsPut a c t)
 put_later a b c t r first h = ok_map r (λ id there. record { is = there.is; means = there.means; kept = keeps_both a b c first there.kept }) h
 
+pub ok_put : {E : Type 0} (a b : List Node) (t u : Term) (r : Result ℕ E) → t ≡ u → IfOk r (IsPut a b t) → IfOk r (IsPut a b u)
+ok_put a b t u r is h = let P : Term → Type 0 = λ x. IfOk r (IsPut a b x) in subst P is h
+
 pub set_later : {E : Type 0} (a b c : List Node) (f : Formula) (r : Result ℕ E) → Keeps a b → IfOk r (IsSet b c f) → IfOk r (IsSet a c f)
 set_later a b c f r first h = ok_map r (λ id there. record { stands = there.stands; kept = keeps_both a b c first there.kept }) h
 
@@ -64,3 +68,9 @@ atom_put a b c d node f sign id r first means term h last =
     let same : formula_of c id ≡ f = ap formula_part h.means ∙ means in
     let P : Formula → Type 0 = λ x. IfOk r (IsSet c d (atom sign x)) in
     set_later a c d (atom sign f) r (keeps_both a b c first (keeps_added b node c id h)) (subst P same last)
+
+-- one more function at a term that is there
+pub put_applied : (a b c : List Node) (t u : Term) (f id new : ℕ) → app f t ≡ u → IsPut a b t id → IsAdded b (App f id) c new → IsPut a c u new
+put_applied a b c t u f id new is first h =
+    let there = put_added b (App f id) c u new (ap (app f) first.means ∙ is) refl h in
+    record { is = there.is; means = there.means; kept = keeps_both a b c first.kept there.kept }

@@ -1,8 +1,8 @@
 //! Terms and atoms as nodes.
 
-ghost use Rattle.std.specs.Prelude.{◌≡◌, ◌<◌, length, IfOk};
+ghost use Rattle.std.specs.Prelude.{◌≡◌, ◌<◌, length, fold, IfOk};
 ghost use Rattle.sc_formula.specs.Trees as tree;
-ghost use Rattle.sc_formula.specs.Nodes.{IsFormula, formula_of};
+ghost use Rattle.sc_formula.specs.Nodes.{IsTerm, IsFormula, term_of, formula_of};
 ghost use Rattle.sc_duty.specs.Cases.{atom, constant};
 ghost use Rattle.sc_writer.specs.Terms.{term_data};
 ghost use Rattle.sc_writer.specs.Made.{IsPut, IsSet};
@@ -51,7 +51,25 @@ pub(crate) fn put(arena: &mut Arena, t: &Term<'_>) -> Result<u32, AllocError>
             room(arena)?;
             arena.mk_app(*f, inner)
         }
+        Term::Chain(functions, inner) => {
+            let inner = put(arena, inner)?;
+            put_chain(arena, functions, inner)
+        }
     }
+}
+
+/// The node of functions one after another at a term.
+fn put_chain(arena: &mut Arena, functions: &[u32], t: u32) -> Result<u32, AllocError>
+    requires { IsTerm arena.old t }
+    ensures { IfOk result (IsPut arena.old arena.new
+        (fold (λ u f. tree.app f u) (term_of arena.old t) functions.now)) }
+{
+    let mut at = t;
+    for f in functions {
+        room(arena)?;
+        at = arena.mk_app(*f, at)?;
+    }
+    Ok(at)
 }
 
 /// The node of a formula, or of its negation.

@@ -11,4 +11,6 @@ pub enum Term<'a> {
     Str(&'a Txt),
     /// A function at a term.
     App(u32, &'a Term<'a>),
+    /// Functions one after another at a term: the first of them at the term, and so on.
+    Chain(&'a [u32], &'a Term<'a>),
 }

@@ -44,10 +44,16 @@ impl Writer {
     pub(crate) fn pay_term(&mut self, t: &Term<'_>) -> Result<(), MakeErr>
         ensures { Pays (term_size (term_data t.now)) self.old result self.new }
     {
-        self.pay(1)?;
         match t {
-            Term::App(_, inner) => self.pay_term(inner),
-            Term::Bound(..) | Term::Num(_) | Term::Str(_) => Ok(()),
+            Term::App(_, inner) => {
+                self.pay(1)?;
+                self.pay_term(inner)
+            }
+            Term::Chain(functions, inner) => {
+                self.pay(functions.len() as u64)?;
+                self.pay_term(inner)
+            }
+            Term::Bound(..) | Term::Num(_) | Term::Str(_) => self.pay(1),
         }
     }
 }

@@ -33,56 +33,56 @@ module _ (w : Schema) (n k : Names) (agree : Agree w n k) where
     expr-agrees scope t (str bytes) is = refl
     expr-agrees scope t (var depth name) is = refl
     expr-agrees scope t nothing is = refl
-    expr-agrees scope t (just x) is = ap (λ z. e.SomeLit z 0) (expr-agrees scope (Plain is.0) x is.2)
+    expr-agrees scope t (just x) is = ap (λ z. e.SomeLit 0 z) (expr-agrees scope (Plain is.0) x is.2)
     expr-agrees scope t (get x m f) is =
-        ap (λ z. e.Get z (named (n.field m f)) 0) (expr-agrees scope (Plain (base.Id m)) x is.1) ∙ ap (λ z. e.Get (written_expr k x) (named z) 0) (agree.field m f t is.0)
+        ap (λ z. e.Get 0 z (named (n.field m f))) (expr-agrees scope (Plain (base.Id m)) x is.1) ∙ ap (λ z. e.Get 0 (written_expr k x) (named z)) (agree.field m f t is.0)
     expr-agrees scope t (equal x y op) is =
-        ap (λ z. e.Cmp op z (written_expr n y) 0) (expr-agrees scope (Plain is.1.0) x is.1.2) ∙ ap (λ z. e.Cmp op (written_expr k x) z 0) (expr-agrees scope (Plain is.1.0) y is.1.3)
+        ap (λ z. e.Cmp 0 op z (written_expr n y)) (expr-agrees scope (Plain is.1.0) x is.1.2) ∙ ap (λ z. e.Cmp 0 op (written_expr k x) z) (expr-agrees scope (Plain is.1.0) y is.1.3)
     expr-agrees scope t (iff x y op) is =
-        ap (λ z. e.Cmp op z (written_expr n y) 0) (expr-agrees scope (Plain base.Bool) x is.1) ∙ ap (λ z. e.Cmp op (written_expr k x) z 0) (expr-agrees scope (Plain base.Bool) y is.2)
+        ap (λ z. e.Cmp 0 op z (written_expr n y)) (expr-agrees scope (Plain base.Bool) x is.1) ∙ ap (λ z. e.Cmp 0 op (written_expr k x) z) (expr-agrees scope (Plain base.Bool) y is.2)
     expr-agrees scope t (less x y op) is =
         ap (λ z. sides op z (written_expr n y)) (expr-agrees scope (Plain base.Int) x is.1) ∙ ap (λ z. sides op (written_expr k x) z) (expr-agrees scope (Plain base.Int) y is.2)
     expr-agrees scope t (within x m set) is =
-        ap (λ z. e.Member z (written_set n set) 0) (expr-agrees scope (Plain (base.Id m)) x is.1) ∙ ap (λ z. e.Member (written_expr k x) z 0) (set-agrees scope (records m) set is.2)
-    expr-agrees scope t (negation x) is = ap (λ z. if says_not x then z else e.Not z 0) (expr-agrees scope (Plain base.Bool) x is.1)
+        ap (λ z. e.Member 0 z (written_set n set)) (expr-agrees scope (Plain (base.Id m)) x is.1) ∙ ap (λ z. e.Member 0 (written_expr k x) z) (set-agrees scope (records m) set is.2)
+    expr-agrees scope t (negation x) is = ap (λ z. if says_not x then z else e.Not 0 z) (expr-agrees scope (Plain base.Bool) x is.1)
     expr-agrees scope t (both x y) is =
-        ap (λ z. e.And z (written_expr n y) 0) (expr-agrees scope (Plain base.Bool) x is.1) ∙ ap (λ z. e.And (written_expr k x) z 0) (expr-agrees scope (Plain base.Bool) y is.2)
+        ap (λ z. e.And 0 z (written_expr n y)) (expr-agrees scope (Plain base.Bool) x is.1) ∙ ap (λ z. e.And 0 (written_expr k x) z) (expr-agrees scope (Plain base.Bool) y is.2)
     expr-agrees scope t (either x y) is =
-        ap (λ z. e.Or z (written_expr n y) 0) (expr-agrees scope (Plain base.Bool) x is.1) ∙ ap (λ z. e.Or (written_expr k x) z 0) (expr-agrees scope (Plain base.Bool) y is.2)
+        ap (λ z. e.Or 0 z (written_expr n y)) (expr-agrees scope (Plain base.Bool) x is.1) ∙ ap (λ z. e.Or 0 (written_expr k x) z) (expr-agrees scope (Plain base.Bool) y is.2)
     expr-agrees scope t (if_expr c x y) is =
-        ap (λ z. e.IfE z (written_expr n x) (written_expr n y) 0) (expr-agrees scope (Plain base.Bool) c is.0)
-        ∙ ap (λ z. e.IfE (written_expr k c) z (written_expr n y) 0) (expr-agrees scope t x is.1)
-        ∙ ap (λ z. e.IfE (written_expr k c) (written_expr k x) z 0) (expr-agrees scope t y is.2)
+        ap (λ z. e.IfE 0 z (written_expr n x) (written_expr n y)) (expr-agrees scope (Plain base.Bool) c is.0)
+        ∙ ap (λ z. e.IfE 0 (written_expr k c) z (written_expr n y)) (expr-agrees scope t x is.1)
+        ∙ ap (λ z. e.IfE 0 (written_expr k c) (written_expr k x) z) (expr-agrees scope t y is.2)
     expr-agrees scope t (match_expr x y name c) is =
-        ap (λ z. e.MatchE z (written_expr n y) (named name) (written_expr n c) 0) (expr-agrees scope (Opt is.0) x is.1)
-        ∙ ap (λ z. e.MatchE (written_expr k x) z (named name) (written_expr n c) 0) (expr-agrees scope t y is.2)
-        ∙ ap (λ z. e.MatchE (written_expr k x) (written_expr k y) (named name) z 0) (expr-agrees (scope ++ Plain is.0 ∷ []) t c is.3)
+        ap (λ z. e.MatchE 0 z (written_expr n y) (named name, written_expr n c)) (expr-agrees scope (Opt is.0) x is.1)
+        ∙ ap (λ z. e.MatchE 0 (written_expr k x) z (named name, written_expr n c)) (expr-agrees scope t y is.2)
+        ∙ ap (λ z. e.MatchE 0 (written_expr k x) (written_expr k y) (named name, z)) (expr-agrees (scope ++ Plain is.0 ∷ []) t c is.3)
 
     set-agrees : (scope : Scope) (c : Content) (x : SetExpr) → IsSet w scope c x → written_set n x ≡ written_set k x
     set-agrees scope c everyone is = refl
     set-agrees scope c nobody is = refl
-    set-agrees scope c (listed items) is = ap (λ z. se.List z 0) (items-agree scope c items is)
+    set-agrees scope c (listed items) is = ap (λ z. se.List 0 z) (items-agree scope c items is)
     set-agrees scope c (union x y) is =
-        ap (λ z. se.Sum z (written_set n y) 0) (set-agrees scope c x is.0) ∙ ap (λ z. se.Sum (written_set k x) z 0) (set-agrees scope c y is.1)
+        ap (λ z. se.Sum 0 z (written_set n y)) (set-agrees scope c x is.0) ∙ ap (λ z. se.Sum 0 (written_set k x) z) (set-agrees scope c y is.1)
     set-agrees scope c (minus x y) is =
-        ap (λ z. se.Less z (written_set n y) 0) (set-agrees scope c x is.0) ∙ ap (λ z. se.Less (written_set k x) z 0) (set-agrees scope c y is.1)
+        ap (λ z. se.Less 0 z (written_set n y)) (set-agrees scope c x is.0) ∙ ap (λ z. se.Less 0 (written_set k x) z) (set-agrees scope c y is.1)
     set-agrees scope c (find m filters) is =
-        ap (λ z. se.Find (named z) (written_filters n m filters) 0) (agree.model m is.1) ∙ ap (λ z. se.Find (named (k.model m)) z 0) (filters-agree scope m filters is.2)
-    set-agrees scope c (path m x) is = ap (λ z. se.Path z 0) (expr-agrees scope (Set m) x is.1)
+        ap (λ z. se.Find 0 (named z) (written_filters n m filters)) (agree.model m is.1) ∙ ap (λ z. se.Find 0 (named (k.model m)) z) (filters-agree scope m filters is.2)
+    set-agrees scope c (path m x) is = ap (λ z. se.Path 0 z) (expr-agrees scope (Set m) x is.1)
     set-agrees scope c (mapped set j name m x) is =
-        ap (λ z. se.MapS z (named name) (written_expr n x) 0) (set-agrees scope (records j) set is.2)
-        ∙ ap (λ z. se.MapS (written_set k set) (named name) z 0) (expr-agrees (scope ++ Plain (base.Id j) ∷ []) (Plain (base.Id m)) x is.3)
+        ap (λ z. se.MapS 0 z (named name) (written_expr n x)) (set-agrees scope (records j) set is.2)
+        ∙ ap (λ z. se.MapS 0 (written_set k set) (named name) z) (expr-agrees (scope ++ Plain (base.Id j) ∷ []) (Plain (base.Id m)) x is.3)
     set-agrees scope c (flat_mapped set j name body) is =
-        ap (λ z. se.FlatS z (named name) (written_set n body) 0) (set-agrees scope (records j) set is.1)
-        ∙ ap (λ z. se.FlatS (written_set k set) (named name) z 0) (set-agrees (scope ++ Plain (base.Id j) ∷ []) c body is.2)
+        ap (λ z. se.FlatS 0 z (named name) (written_set n body)) (set-agrees scope (records j) set is.1)
+        ∙ ap (λ z. se.FlatS 0 (written_set k set) (named name) z) (set-agrees (scope ++ Plain (base.Id j) ∷ []) c body is.2)
     set-agrees scope c (if_set x y z) is =
-        ap (λ a. se.IfS a (written_set n y) (written_set n z) 0) (expr-agrees scope (Plain base.Bool) x is.0)
-        ∙ ap (λ a. se.IfS (written_expr k x) a (written_set n z) 0) (set-agrees scope c y is.1)
-        ∙ ap (λ a. se.IfS (written_expr k x) (written_set k y) a 0) (set-agrees scope c z is.2)
+        ap (λ a. se.IfS 0 a (written_set n y) (written_set n z)) (expr-agrees scope (Plain base.Bool) x is.0)
+        ∙ ap (λ a. se.IfS 0 (written_expr k x) a (written_set n z)) (set-agrees scope c y is.1)
+        ∙ ap (λ a. se.IfS 0 (written_expr k x) (written_set k y) a) (set-agrees scope c z is.2)
     set-agrees scope c (match_set x y name z) is =
-        ap (λ a. se.MatchS a (written_set n y) (named name) (written_set n z) 0) (expr-agrees scope (Opt is.0) x is.1)
-        ∙ ap (λ a. se.MatchS (written_expr k x) a (named name) (written_set n z) 0) (set-agrees scope c y is.2)
-        ∙ ap (λ a. se.MatchS (written_expr k x) (written_set k y) (named name) a 0) (set-agrees (scope ++ Plain is.0 ∷ []) c z is.3)
+        ap (λ a. se.MatchS 0 a (written_set n y) (named name) (written_set n z)) (expr-agrees scope (Opt is.0) x is.1)
+        ∙ ap (λ a. se.MatchS 0 (written_expr k x) a (named name) (written_set n z)) (set-agrees scope c y is.2)
+        ∙ ap (λ a. se.MatchS 0 (written_expr k x) (written_set k y) (named name) a) (set-agrees (scope ++ Plain is.0 ∷ []) c z is.3)
 
     items-agree : (scope : Scope) (c : Content) (xs : Items) → AreItems w scope c xs → written_items n xs ≡ written_items k xs
     items-agree scope c no_items is = refl

@@ -23,8 +23,8 @@ use Rattle.sc_written.specs.Trees.{says_not, sides, written_expr, written_filter
 use Rattle.sc_written.specs.Specs.{written_base, written_field, written_model, written_type}
 use Rattle.sc_written.specs.RoundTrip.{WrittenIsStripped}
 
-cmp-still : (op : CmpOp) (a b : tree.Expr) → stripped_expr a ≡ a → stripped_expr b ≡ b → stripped_expr (e.Cmp op a b 0) ≡ e.Cmp op a b 0
-cmp-still op a b one other = layer.Cmp_stripped op a b 0 ∙ ap (λ z. e.Cmp op z (stripped_expr b) 0) one ∙ ap (λ z. e.Cmp op a z 0) other
+cmp-still : (op : CmpOp) (a b : tree.Expr) → stripped_expr a ≡ a → stripped_expr b ≡ b → stripped_expr (e.Cmp 0 op a b) ≡ e.Cmp 0 op a b
+cmp-still op a b one other = layer.Cmp_stripped op a b 0 ∙ ap (λ z. e.Cmp 0 op z (stripped_expr b)) one ∙ ap (λ z. e.Cmp 0 op a z) other
 
 sides-still : (op : CmpOp) (a b : tree.Expr) → stripped_expr a ≡ a → stripped_expr b ≡ b → stripped_expr (sides op a b) ≡ sides op a b
 sides-still Eq a b one other = cmp-still Eq a b one other
@@ -34,9 +34,9 @@ sides-still Le a b one other = cmp-still Le b a other one
 sides-still Gt a b one other = cmp-still Gt b a other one
 sides-still Ge a b one other = cmp-still Ge a b one other
 
-not-still : (c : Bool) (a : tree.Expr) → stripped_expr a ≡ a → stripped_expr (if c then a else e.Not a 0) ≡ (if c then a else e.Not a 0)
+not-still : (c : Bool) (a : tree.Expr) → stripped_expr a ≡ a → stripped_expr (if c then a else e.Not 0 a) ≡ (if c then a else e.Not 0 a)
 not-still true a same = same
-not-still false a same = layer.Not_stripped a 0 ∙ ap (λ z. e.Not z 0) same
+not-still false a same = layer.Not_stripped a 0 ∙ ap (λ z. e.Not 0 z) same
 
 module _ (n : Names) where
   mutual
@@ -46,57 +46,57 @@ module _ (n : Names) where
     expr-still (str bytes) = layer.Str_stripped bytes 0
     expr-still (var depth name) = layer.Var_stripped (named name) 0
     expr-still nothing = layer.NoneLit_stripped 0
-    expr-still (just x) = layer.SomeLit_stripped (written_expr n x) 0 ∙ ap (λ z. e.SomeLit z 0) (expr-still x)
-    expr-still (get x m f) = layer.Get_stripped (written_expr n x) (named (n.field m f)) 0 ∙ ap (λ z. e.Get z (named (n.field m f)) 0) (expr-still x)
+    expr-still (just x) = layer.SomeLit_stripped (written_expr n x) 0 ∙ ap (λ z. e.SomeLit 0 z) (expr-still x)
+    expr-still (get x m f) = layer.Get_stripped (written_expr n x) (named (n.field m f)) 0 ∙ ap (λ z. e.Get 0 z (named (n.field m f))) (expr-still x)
     expr-still (equal a b op) = cmp-still op (written_expr n a) (written_expr n b) (expr-still a) (expr-still b)
     expr-still (iff a b op) = cmp-still op (written_expr n a) (written_expr n b) (expr-still a) (expr-still b)
     expr-still (less a b op) = sides-still op (written_expr n a) (written_expr n b) (expr-still a) (expr-still b)
     expr-still (within x m set) =
-        layer.Member_stripped (written_expr n x) (written_set n set) 0 ∙ ap (λ z. e.Member z (stripped_set (written_set n set)) 0) (expr-still x) ∙ ap (λ z. e.Member (written_expr n x) z 0) (set-still set)
+        layer.Member_stripped (written_expr n x) (written_set n set) 0 ∙ ap (λ z. e.Member 0 z (stripped_set (written_set n set))) (expr-still x) ∙ ap (λ z. e.Member 0 (written_expr n x) z) (set-still set)
     expr-still (negation x) = not-still (says_not x) (written_expr n x) (expr-still x)
     expr-still (both a b) =
-        layer.And_stripped (written_expr n a) (written_expr n b) 0 ∙ ap (λ z. e.And z (stripped_expr (written_expr n b)) 0) (expr-still a) ∙ ap (λ z. e.And (written_expr n a) z 0) (expr-still b)
+        layer.And_stripped (written_expr n a) (written_expr n b) 0 ∙ ap (λ z. e.And 0 z (stripped_expr (written_expr n b))) (expr-still a) ∙ ap (λ z. e.And 0 (written_expr n a) z) (expr-still b)
     expr-still (either a b) =
-        layer.Or_stripped (written_expr n a) (written_expr n b) 0 ∙ ap (λ z. e.Or z (stripped_expr (written_expr n b)) 0) (expr-still a) ∙ ap (λ z. e.Or (written_expr n a) z 0) (expr-still b)
+        layer.Or_stripped (written_expr n a) (written_expr n b) 0 ∙ ap (λ z. e.Or 0 z (stripped_expr (written_expr n b))) (expr-still a) ∙ ap (λ z. e.Or 0 (written_expr n a) z) (expr-still b)
     expr-still (if_expr c a b) =
         layer.IfE_stripped (written_expr n c) (written_expr n a) (written_expr n b) 0
-        ∙ ap (λ z. e.IfE z (stripped_expr (written_expr n a)) (stripped_expr (written_expr n b)) 0) (expr-still c)
-        ∙ ap (λ z. e.IfE (written_expr n c) z (stripped_expr (written_expr n b)) 0) (expr-still a)
-        ∙ ap (λ z. e.IfE (written_expr n c) (written_expr n a) z 0) (expr-still b)
+        ∙ ap (λ z. e.IfE 0 z (stripped_expr (written_expr n a)) (stripped_expr (written_expr n b))) (expr-still c)
+        ∙ ap (λ z. e.IfE 0 (written_expr n c) z (stripped_expr (written_expr n b))) (expr-still a)
+        ∙ ap (λ z. e.IfE 0 (written_expr n c) (written_expr n a) z) (expr-still b)
     expr-still (match_expr x a name b) =
         layer.MatchE_stripped (written_expr n x) (written_expr n a) (named name) (written_expr n b) 0
-        ∙ ap (λ z. e.MatchE z (stripped_expr (written_expr n a)) (named name) (stripped_expr (written_expr n b)) 0) (expr-still x)
-        ∙ ap (λ z. e.MatchE (written_expr n x) z (named name) (stripped_expr (written_expr n b)) 0) (expr-still a)
-        ∙ ap (λ z. e.MatchE (written_expr n x) (written_expr n a) (named name) z 0) (expr-still b)
+        ∙ ap (λ z. e.MatchE 0 z (stripped_expr (written_expr n a)) (named name, stripped_expr (written_expr n b))) (expr-still x)
+        ∙ ap (λ z. e.MatchE 0 (written_expr n x) z (named name, stripped_expr (written_expr n b))) (expr-still a)
+        ∙ ap (λ z. e.MatchE 0 (written_expr n x) (written_expr n a) (named name, z)) (expr-still b)
 
     set-still : (x : SetExpr) → stripped_set (written_set n x) ≡ written_set n x
     set-still everyone = layer.Everyone_stripped 0 0
     set-still nobody = layer.Nobody_stripped 0
-    set-still (listed items) = layer.List_stripped (written_items n items) 0 ∙ ap (λ z. se.List z 0) (items-still items)
+    set-still (listed items) = layer.List_stripped (written_items n items) 0 ∙ ap (λ z. se.List 0 z) (items-still items)
     set-still (union a b) =
-        layer.Sum_stripped (written_set n a) (written_set n b) 0 ∙ ap (λ z. se.Sum z (stripped_set (written_set n b)) 0) (set-still a) ∙ ap (λ z. se.Sum (written_set n a) z 0) (set-still b)
+        layer.Sum_stripped (written_set n a) (written_set n b) 0 ∙ ap (λ z. se.Sum 0 z (stripped_set (written_set n b))) (set-still a) ∙ ap (λ z. se.Sum 0 (written_set n a) z) (set-still b)
     set-still (minus a b) =
-        layer.Less_stripped (written_set n a) (written_set n b) 0 ∙ ap (λ z. se.Less z (stripped_set (written_set n b)) 0) (set-still a) ∙ ap (λ z. se.Less (written_set n a) z 0) (set-still b)
-    set-still (find m filters) = layer.Find_stripped (named (n.model m)) (written_filters n m filters) 0 ∙ ap (λ z. se.Find (named (n.model m)) z 0) (filters-still m filters)
-    set-still (path m x) = layer.Path_stripped (written_expr n x) 0 ∙ ap (λ z. se.Path z 0) (expr-still x)
+        layer.Less_stripped (written_set n a) (written_set n b) 0 ∙ ap (λ z. se.Less 0 z (stripped_set (written_set n b))) (set-still a) ∙ ap (λ z. se.Less 0 (written_set n a) z) (set-still b)
+    set-still (find m filters) = layer.Find_stripped (named (n.model m)) (written_filters n m filters) 0 ∙ ap (λ z. se.Find 0 (named (n.model m)) z) (filters-still m filters)
+    set-still (path m x) = layer.Path_stripped (written_expr n x) 0 ∙ ap (λ z. se.Path 0 z) (expr-still x)
     set-still (mapped set k name m x) =
         layer.MapS_stripped (written_set n set) (named name) (written_expr n x) 0
-        ∙ ap (λ z. se.MapS z (named name) (stripped_expr (written_expr n x)) 0) (set-still set)
-        ∙ ap (λ z. se.MapS (written_set n set) (named name) z 0) (expr-still x)
+        ∙ ap (λ z. se.MapS 0 z (named name) (stripped_expr (written_expr n x))) (set-still set)
+        ∙ ap (λ z. se.MapS 0 (written_set n set) (named name) z) (expr-still x)
     set-still (flat_mapped set k name body) =
         layer.FlatS_stripped (written_set n set) (named name) (written_set n body) 0
-        ∙ ap (λ z. se.FlatS z (named name) (stripped_set (written_set n body)) 0) (set-still set)
-        ∙ ap (λ z. se.FlatS (written_set n set) (named name) z 0) (set-still body)
+        ∙ ap (λ z. se.FlatS 0 z (named name) (stripped_set (written_set n body))) (set-still set)
+        ∙ ap (λ z. se.FlatS 0 (written_set n set) (named name) z) (set-still body)
     set-still (if_set c a b) =
         layer.IfS_stripped (written_expr n c) (written_set n a) (written_set n b) 0
-        ∙ ap (λ z. se.IfS z (stripped_set (written_set n a)) (stripped_set (written_set n b)) 0) (expr-still c)
-        ∙ ap (λ z. se.IfS (written_expr n c) z (stripped_set (written_set n b)) 0) (set-still a)
-        ∙ ap (λ z. se.IfS (written_expr n c) (written_set n a) z 0) (set-still b)
+        ∙ ap (λ z. se.IfS 0 z (stripped_set (written_set n a)) (stripped_set (written_set n b))) (expr-still c)
+        ∙ ap (λ z. se.IfS 0 (written_expr n c) z (stripped_set (written_set n b))) (set-still a)
+        ∙ ap (λ z. se.IfS 0 (written_expr n c) (written_set n a) z) (set-still b)
     set-still (match_set x a name b) =
         layer.MatchS_stripped (written_expr n x) (written_set n a) (named name) (written_set n b) 0
-        ∙ ap (λ z. se.MatchS z (stripped_set (written_set n a)) (named name) (stripped_set (written_set n b)) 0) (expr-still x)
-        ∙ ap (λ z. se.MatchS (written_expr n x) z (named name) (stripped_set (written_set n b)) 0) (set-still a)
-        ∙ ap (λ z. se.MatchS (written_expr n x) (written_set n a) (named name) z 0) (set-still b)
+        ∙ ap (λ z. se.MatchS 0 z (stripped_set (written_set n a)) (named name) (stripped_set (written_set n b))) (expr-still x)
+        ∙ ap (λ z. se.MatchS 0 (written_expr n x) z (named name) (stripped_set (written_set n b))) (set-still a)
+        ∙ ap (λ z. se.MatchS 0 (written_expr n x) (written_set n a) (named name) z) (set-still b)
 
     items-still : (xs : Items) → map stripped_item (written_items n xs) ≡ written_items n xs
     items-still no_items = refl

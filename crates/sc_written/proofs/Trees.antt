@@ -125,7 +125,7 @@ module _ (s : Schema) (n : Names) where
   -- ---- comparisons
 
   abbrev pub Compared : CmpOp → TExpr → TExpr → TExpr → Type 0
-  Compared op x y tree = Back (expr_of tree) (e.Cmp op (written_expr n (expr_of x)) (written_expr n (expr_of y)) 0)
+  Compared op x y tree = Back (expr_of tree) (e.Cmp 0 op (written_expr n (expr_of x)) (written_expr n (expr_of y)))
 
   same_back : (made : TExpr) (x : Expr) (y : tree.Expr) → expr_of made ≡ x → Back x y → Back (expr_of made) y
   same_back made x y saw back = subst (λ z. Back z y) (sym saw) back
@@ -155,19 +155,19 @@ module _ (s : Schema) (n : Names) where
 
   -- ---- each form, of its parts
 
-  Flag_back : (value : Bool) (at : ℕ) → ExprBack (e.Flag value at)
+  Flag_back : (value : Bool) (at : ℕ) → ExprBack (e.Flag at value)
   Flag_back value at vars asked r h =
       fitted asked at (Plain base.Bool) (t.Flag value) (flag value) _ r (seen.Flag_seen value) (sym (form.Flag_is s vars asked value at) ∙ h) (sym (layer.Flag_stripped value at), refl)
 
-  Num_back : (value : ℤ) (at : ℕ) → ExprBack (e.Num value at)
+  Num_back : (value : ℤ) (at : ℕ) → ExprBack (e.Num at value)
   Num_back value at vars asked r h =
       fitted asked at (Plain base.Int) (t.Num value) (num value) _ r (seen.Num_seen value) (sym (form.Num_is s vars asked value at) ∙ h) (sym (layer.Num_stripped value at), refl)
 
-  Str_back : (text : List ℕ) (at : ℕ) → ExprBack (e.Str text at)
+  Str_back : (text : List ℕ) (at : ℕ) → ExprBack (e.Str at text)
   Str_back text at vars asked r h =
       fitted asked at (Plain base.Text) (t.Str text) (str text) _ r (seen.Str_seen text) (sym (form.Str_is s vars asked text at) ∙ h) (sym (layer.Str_stripped text at), refl)
 
-  Var_back : (x : Named) (at : ℕ) → ExprBack (e.Var x at)
+  Var_back : (x : Named) (at : ℕ) → ExprBack (e.Var at x)
   Var_back x at vars asked r h =
       let k = part.Var_parts s vars asked x at r h in
       fitted asked at k.0.1 (t.Var k.0.0 x.name) (var k.0.0 x.name) _ r (seen.Var_seen k.0.0 x.name) k.2 (sym (layer.Var_stripped x at), refl)
@@ -184,22 +184,22 @@ module _ (s : Schema) (n : Names) where
   NoneLit_back : (at : ℕ) → ExprBack (e.NoneLit at)
   NoneLit_back at vars asked r h = none_back at asked r (sym (form.NoneLit_is s vars asked at) ∙ h)
 
-  SomeLit_back : (x : tree.Expr) (at : ℕ) → ExprBack x → ExprBack (e.SomeLit x at)
+  SomeLit_back : (x : tree.Expr) (at : ℕ) → ExprBack x → ExprBack (e.SomeLit at x)
   SomeLit_back x at gx vars asked r h =
       let k = part.SomeLit_parts s vars asked x at r h in
       let a = gx vars _ k.0 k.2 in
       fitted asked at (Opt k.1) (t.SomeLit k.0.tree) (just (expr_of k.0.tree)) _ r (seen.SomeLit_seen k.0.tree) k.4
-      (ap (λ z. e.SomeLit z 0) a.0 ∙ sym (layer.SomeLit_stripped x at), refl)
+      (ap (λ z. e.SomeLit 0 z) a.0 ∙ sym (layer.SomeLit_stripped x at), refl)
 
-  Member_back : (x : tree.Expr) (set : tree_set.SetExpr) (at : ℕ) → ExprBack x → SetBack set → ExprBack (e.Member x set at)
+  Member_back : (x : tree.Expr) (set : tree_set.SetExpr) (at : ℕ) → ExprBack x → SetBack set → ExprBack (e.Member at x set)
   Member_back x set at gx gset vars asked r h =
       let k = part.Member_parts s vars asked x set at r h in
       let a = gx vars None k.0 k.3 in
       let all = gset.0 vars (Records k.1) k.2 k.5 in
       fitted asked at (Plain base.Bool) (t.Member k.0.tree k.1 k.2) (within (expr_of k.0.tree) k.1 (set_of k.2)) _ r (seen.Member_seen k.0.tree k.1 k.2) k.6
-      (ap (λ z. e.Member z (written_set n (set_of k.2)) 0) a.0 ∙ ap (λ z. e.Member (stripped_expr x) z 0) all ∙ sym (layer.Member_stripped x set at), refl)
+      (ap (λ z. e.Member 0 z (written_set n (set_of k.2))) a.0 ∙ ap (λ z. e.Member 0 (stripped_expr x) z) all ∙ sym (layer.Member_stripped x set at), refl)
 
-  Cmp_back : (op : CmpOp) (x y : tree.Expr) (at : ℕ) → ExprBack x → ExprBack y → ExprBack (e.Cmp op x y at)
+  Cmp_back : (op : CmpOp) (x y : tree.Expr) (at : ℕ) → ExprBack x → ExprBack y → ExprBack (e.Cmp at op x y)
   Cmp_back op x y at gx gy vars asked r h =
       let k = part.Cmp_parts s vars asked op x y at r h in
       let whole : TExpr = compared op k.1 k.0.tree k.2.tree in
@@ -207,34 +207,34 @@ module _ (s : Schema) (n : Names) where
       let b = gy vars _ k.2 k.5 in
       let made = compared_back op k.1 k.0.tree k.2.tree in
       fitted asked at (Plain base.Bool) whole (expr_of whole) _ r refl k.6
-      (made.0 ∙ ap (λ z. e.Cmp op z (written_expr n (expr_of k.2.tree)) 0) a.0 ∙ ap (λ z. e.Cmp op (stripped_expr x) z 0) b.0 ∙ sym (layer.Cmp_stripped op x y at), made.1)
+      (made.0 ∙ ap (λ z. e.Cmp 0 op z (written_expr n (expr_of k.2.tree))) a.0 ∙ ap (λ z. e.Cmp 0 op (stripped_expr x) z) b.0 ∙ sym (layer.Cmp_stripped op x y at), made.1)
 
-  not_written : (x : Expr) (y : tree.Expr) → Back x y → written_expr n (negation x) ≡ e.Not y 0
+  not_written : (x : Expr) (y : tree.Expr) → Back x y → written_expr n (negation x) ≡ e.Not 0 y
   not_written x y back =
-      ap (λ c. if c then written_expr n x else e.Not (written_expr n x) 0) back.1 ∙ ap (λ z. e.Not z 0) back.0
+      ap (λ c. if c then written_expr n x else e.Not 0 (written_expr n x)) back.1 ∙ ap (λ z. e.Not 0 z) back.0
 
-  Not_back : (x : tree.Expr) (at : ℕ) → ExprBack x → ExprBack (e.Not x at)
+  Not_back : (x : tree.Expr) (at : ℕ) → ExprBack x → ExprBack (e.Not at x)
   Not_back x at gx vars asked r h =
       let k = part.Not_parts s vars asked x at r h in
       let a = gx vars _ k.0 k.1 in
       fitted asked at (Plain base.Bool) (t.Not k.0.tree) (negation (expr_of k.0.tree)) _ r (seen.Not_seen k.0.tree) k.2
       (not_written (expr_of k.0.tree) (stripped_expr x) a ∙ sym (layer.Not_stripped x at), refl)
 
-  And_back : (x y : tree.Expr) (at : ℕ) → ExprBack x → ExprBack y → ExprBack (e.And x y at)
+  And_back : (x y : tree.Expr) (at : ℕ) → ExprBack x → ExprBack y → ExprBack (e.And at x y)
   And_back x y at gx gy vars asked r h =
       let k = part.And_parts s vars asked x y at r h in
       let a = gx vars _ k.0 k.2 in
       let b = gy vars _ k.1 k.3 in
       fitted asked at (Plain base.Bool) (t.And k.0.tree k.1.tree) (both (expr_of k.0.tree) (expr_of k.1.tree)) _ r (seen.And_seen k.0.tree k.1.tree) k.4
-      (ap (λ z. e.And z (written_expr n (expr_of k.1.tree)) 0) a.0 ∙ ap (λ z. e.And (stripped_expr x) z 0) b.0 ∙ sym (layer.And_stripped x y at), refl)
+      (ap (λ z. e.And 0 z (written_expr n (expr_of k.1.tree))) a.0 ∙ ap (λ z. e.And 0 (stripped_expr x) z) b.0 ∙ sym (layer.And_stripped x y at), refl)
 
-  Or_back : (x y : tree.Expr) (at : ℕ) → ExprBack x → ExprBack y → ExprBack (e.Or x y at)
+  Or_back : (x y : tree.Expr) (at : ℕ) → ExprBack x → ExprBack y → ExprBack (e.Or at x y)
   Or_back x y at gx gy vars asked r h =
       let k = part.Or_parts s vars asked x y at r h in
       let a = gx vars _ k.0 k.2 in
       let b = gy vars _ k.1 k.3 in
       fitted asked at (Plain base.Bool) (t.Or k.0.tree k.1.tree) (either (expr_of k.0.tree) (expr_of k.1.tree)) _ r (seen.Or_seen k.0.tree k.1.tree) k.4
-      (ap (λ z. e.Or z (written_expr n (expr_of k.1.tree)) 0) a.0 ∙ ap (λ z. e.Or (stripped_expr x) z 0) b.0 ∙ sym (layer.Or_stripped x y at), refl)
+      (ap (λ z. e.Or 0 z (written_expr n (expr_of k.1.tree))) a.0 ∙ ap (λ z. e.Or 0 (stripped_expr x) z) b.0 ∙ sym (layer.Or_stripped x y at), refl)
 
   -- a choice, which is not asked for a type
   chosen : (made : TExpr) (x : Expr) (y : tree.Expr) (r : Typed) (at : ℕ) (ty : TTy) → expr_of made ≡ x → of_type at ty made ≡ r → Back x y → Back (expr_of r.tree) y
@@ -242,21 +242,21 @@ module _ (s : Schema) (n : Names) where
       let there : Back (expr_of made) y = subst (λ z. Back z y) (sym saw) back in
       subst (λ (z : Typed). Back (expr_of z.tree) y) same there
 
-  IfE_back : (c x y : tree.Expr) (at : ℕ) → ExprBack c → ExprBack x → ExprBack y → ExprBack (e.IfE c x y at)
+  IfE_back : (c x y : tree.Expr) (at : ℕ) → ExprBack c → ExprBack x → ExprBack y → ExprBack (e.IfE at c x y)
   IfE_back c x y at gc gx gy vars asked r h =
       let k = part.IfE_parts s vars asked c x y at r h in
       let a = gc vars _ k.0 k.3 in
       let b = gx vars asked k.1 k.4 in
       let d = gy vars (Some k.1.ty) k.2 k.5 in
       chosen (t.IfE k.0.tree k.1.tree k.2.tree) (if_expr (expr_of k.0.tree) (expr_of k.1.tree) (expr_of k.2.tree)) _ r at k.1.ty (seen.IfE_seen k.0.tree k.1.tree k.2.tree) k.6 (
-        ap (λ z. e.IfE z (written_expr n (expr_of k.1.tree)) (written_expr n (expr_of k.2.tree)) 0) a.0
-            ∙ ap (λ z. e.IfE (stripped_expr c) z (written_expr n (expr_of k.2.tree)) 0) b.0
-            ∙ ap (λ z. e.IfE (stripped_expr c) (stripped_expr x) z 0) d.0
+        ap (λ z. e.IfE 0 z (written_expr n (expr_of k.1.tree)) (written_expr n (expr_of k.2.tree))) a.0
+            ∙ ap (λ z. e.IfE 0 (stripped_expr c) z (written_expr n (expr_of k.2.tree))) b.0
+            ∙ ap (λ z. e.IfE 0 (stripped_expr c) (stripped_expr x) z) d.0
             ∙ sym (layer.IfE_stripped c x y at),
         refl,
       )
 
-  MatchE_back : (x y : tree.Expr) (v : Named) (z : tree.Expr) (at : ℕ) → ExprBack x → ExprBack y → ExprBack z → ExprBack (e.MatchE x y v z at)
+  MatchE_back : (x y : tree.Expr) (v : Named) (z : tree.Expr) (at : ℕ) → ExprBack x → ExprBack y → ExprBack z → ExprBack (e.MatchE at x y (v, z))
   MatchE_back x y v z at gx gy gz vars asked r h =
       let k = part.MatchE_parts s vars asked x y v z at r h in
       let a = gx vars None k.0 k.5 in
@@ -264,9 +264,9 @@ module _ (s : Schema) (n : Names) where
       let d = gz k.3 (Some k.2.ty) k.4 k.9 in
       chosen (t.MatchE k.0.tree k.2.tree v.name k.4.tree) (match_expr (expr_of k.0.tree) (expr_of k.2.tree) v.name (expr_of k.4.tree)) _ r at k.2.ty
       (seen.MatchE_seen k.0.tree k.2.tree v.name k.4.tree) k.10 (
-        ap (λ w. e.MatchE w (written_expr n (expr_of k.2.tree)) (named v.name) (written_expr n (expr_of k.4.tree)) 0) a.0
-            ∙ ap (λ w. e.MatchE (stripped_expr x) w (named v.name) (written_expr n (expr_of k.4.tree)) 0) b.0
-            ∙ ap (λ w. e.MatchE (stripped_expr x) (stripped_expr y) (named v.name) w 0) d.0
+        ap (λ w. e.MatchE 0 w (written_expr n (expr_of k.2.tree)) (named v.name, written_expr n (expr_of k.4.tree))) a.0
+            ∙ ap (λ w. e.MatchE 0 (stripped_expr x) w (named v.name, written_expr n (expr_of k.4.tree))) b.0
+            ∙ ap (λ w. e.MatchE 0 (stripped_expr x) (stripped_expr y) (named v.name, w)) d.0
             ∙ sym (layer.MatchE_stripped x y v z at),
         refl,
       )
@@ -279,12 +279,12 @@ module _ (s : Schema) (n : Names) where
   no_source : (vars : List Var) (x : tree_set.SetExpr) (at : ℕ) (r : Source) → typed_source s vars x ≡ Err (WrongType at) → typed_source s vars x ≡ Ok r → written_set n (set_of r.set) ≡ stripped_set x
   no_source vars x at r none h = let never : ⊥ = cc in absurd never
 
-  Everyone_back : (word at : ℕ) → SetBack (se.Everyone word at)
+  Everyone_back : (word at : ℕ) → SetBack (se.Everyone at word)
   Everyone_back word at = (
     λ vars content r h.
         let k = part.Everyone_parts s vars content word at r h in
         as_seen ts.Everyone r everyone _ seen.Everyone_seen k.2 (sym (layer.Everyone_stripped word at)),
-    λ vars r h. no_source vars (se.Everyone word at) at r (form.Everyone_no_source s vars word at) h,
+    λ vars r h. no_source vars (se.Everyone at word) at r (form.Everyone_no_source s vars word at) h,
   )
 
   Nobody_back : (at : ℕ) → SetBack (se.Nobody at)
@@ -293,7 +293,7 @@ module _ (s : Schema) (n : Names) where
     λ vars r h. no_source vars (se.Nobody at) at r (form.Nobody_no_source s vars at) h,
   )
 
-  List_back : (xs : List SureItem) (at : ℕ) → SetBack (se.List (map (λ (x : SureItem). x.0) xs) at)
+  List_back : (xs : List SureItem) (at : ℕ) → SetBack (se.List at (map (λ (x : SureItem). x.0) xs))
   List_back xs at =
       let plain : List Item = map (λ (x : SureItem). x.0) xs in (
         λ vars content r h.
@@ -301,26 +301,26 @@ module _ (s : Schema) (n : Names) where
             let each = each_ok (typed_item s vars content) plain [] k.0 k.1 in
             let all : EachOk (typed_item s vars content) plain k.0 = subst (EachOk (typed_item s vars content) plain) each.1 each.2 in
             as_seen (ts.List k.0) r (listed (items_of (map item_of k.0))) _ (seen.List_seen k.0) k.2
-            (ap (λ ys. se.List ys 0) (items_back vars content xs k.0 all) ∙ sym (layer.List_stripped plain at)),
-        λ vars r h. no_source vars (se.List plain at) at r (form.List_no_source s vars plain at) h,
+            (ap (λ ys. se.List 0 ys) (items_back vars content xs k.0 all) ∙ sym (layer.List_stripped plain at)),
+        λ vars r h. no_source vars (se.List at plain) at r (form.List_no_source s vars plain at) h,
       )
 
-  Sum_back : (x y : tree_set.SetExpr) (at : ℕ) → SetBack x → SetBack y → SetBack (se.Sum x y at)
+  Sum_back : (x y : tree_set.SetExpr) (at : ℕ) → SetBack x → SetBack y → SetBack (se.Sum at x y)
   Sum_back x y at gx gy = (
     λ vars content r h.
         let k = part.Sum_parts s vars content x y at r h in
         as_seen (ts.Sum k.0 k.1) r (union (set_of k.0) (set_of k.1)) _ (seen.Sum_seen k.0 k.1) k.4
-        (ap (λ z. se.Sum z (written_set n (set_of k.1)) 0) (gx.0 vars content k.0 k.2) ∙ ap (λ z. se.Sum (stripped_set x) z 0) (gy.0 vars content k.1 k.3) ∙ sym (layer.Sum_stripped x y at)),
-    λ vars r h. no_source vars (se.Sum x y at) at r (form.Sum_no_source s vars x y at) h,
+        (ap (λ z. se.Sum 0 z (written_set n (set_of k.1))) (gx.0 vars content k.0 k.2) ∙ ap (λ z. se.Sum 0 (stripped_set x) z) (gy.0 vars content k.1 k.3) ∙ sym (layer.Sum_stripped x y at)),
+    λ vars r h. no_source vars (se.Sum at x y) at r (form.Sum_no_source s vars x y at) h,
   )
 
-  Less_back : (x y : tree_set.SetExpr) (at : ℕ) → SetBack x → SetBack y → SetBack (se.Less x y at)
+  Less_back : (x y : tree_set.SetExpr) (at : ℕ) → SetBack x → SetBack y → SetBack (se.Less at x y)
   Less_back x y at gx gy = (
     λ vars content r h.
         let k = part.Less_parts s vars content x y at r h in
         as_seen (ts.Less k.0 k.1) r (minus (set_of k.0) (set_of k.1)) _ (seen.Minus_seen k.0 k.1) k.4
-        (ap (λ z. se.Less z (written_set n (set_of k.1)) 0) (gx.0 vars content k.0 k.2) ∙ ap (λ z. se.Less (stripped_set x) z 0) (gy.0 vars content k.1 k.3) ∙ sym (layer.Less_stripped x y at)),
-    λ vars r h. no_source vars (se.Less x y at) at r (form.Less_no_source s vars x y at) h,
+        (ap (λ z. se.Less 0 z (written_set n (set_of k.1))) (gx.0 vars content k.0 k.2) ∙ ap (λ z. se.Less 0 (stripped_set x) z) (gy.0 vars content k.1 k.3) ∙ sym (layer.Less_stripped x y at)),
+    λ vars r h. no_source vars (se.Less at x y) at r (form.Less_no_source s vars x y at) h,
   )
 
   -- a source as what it stands for
@@ -331,22 +331,22 @@ module _ (s : Schema) (n : Names) where
   chain_back : (of : Source) (r : TSet) (y : tree_set.SetExpr) → written_set n (set_of of.set) ≡ y → of.set ≡ r → written_set n (set_of r) ≡ y
   chain_back of r y back h = ap (λ (z : TSet). written_set n (set_of z)) (sym h) ∙ back
 
-  Path_source_back : (x : tree.Expr) (at : ℕ) → ExprBack x → SourceBack (se.Path x at)
+  Path_source_back : (x : tree.Expr) (at : ℕ) → ExprBack x → SourceBack (se.Path at x)
   Path_source_back x at gx vars r h =
       let k = part.Path_source_parts s vars x at r h in
       let a = gx vars None k.0 k.2 in
-      source_seen k.0.at k.1 (ts.Path k.1 k.0.tree) (path k.1 (expr_of k.0.tree)) _ r (seen.Path_seen k.1 k.0.tree) k.4 (ap (λ z. se.Path z 0) a.0 ∙ sym (layer.Path_stripped x at))
+      source_seen k.0.at k.1 (ts.Path k.1 k.0.tree) (path k.1 (expr_of k.0.tree)) _ r (seen.Path_seen k.1 k.0.tree) k.4 (ap (λ z. se.Path 0 z) a.0 ∙ sym (layer.Path_stripped x at))
 
-  MapS_source_back : (x : tree_set.SetExpr) (v : Named) (y : tree.Expr) (at : ℕ) → SetBack x → ExprBack y → SourceBack (se.MapS x v y at)
+  MapS_source_back : (x : tree_set.SetExpr) (v : Named) (y : tree.Expr) (at : ℕ) → SetBack x → ExprBack y → SourceBack (se.MapS at x v y)
   MapS_source_back x v y at gx gy vars r h =
       let k = part.MapS_source_parts s vars x v y at r h in
       let over = gx.1 vars k.0 k.4 in
       let a = gy k.1 None k.2 k.6 in
       source_seen k.0.at k.3 (ts.MapS k.0.set k.0.model v.name k.3 k.2.tree) (mapped (set_of k.0.set) k.0.model v.name k.3 (expr_of k.2.tree)) _ r
       (seen.MapS_seen k.0.set k.0.model v.name k.3 k.2.tree) k.8
-      (ap (λ z. se.MapS z (named v.name) (written_expr n (expr_of k.2.tree)) 0) over ∙ ap (λ z. se.MapS (stripped_set x) (named v.name) z 0) a.0 ∙ sym (layer.MapS_stripped x v y at))
+      (ap (λ z. se.MapS 0 z (named v.name) (written_expr n (expr_of k.2.tree))) over ∙ ap (λ z. se.MapS 0 (stripped_set x) (named v.name) z) a.0 ∙ sym (layer.MapS_stripped x v y at))
 
-  Path_back : (x : tree.Expr) (at : ℕ) → ExprBack x → SetBack (se.Path x at)
+  Path_back : (x : tree.Expr) (at : ℕ) → ExprBack x → SetBack (se.Path at x)
   Path_back x at gx =
       let source = Path_source_back x at gx in (
         λ vars content r h.
@@ -355,7 +355,7 @@ module _ (s : Schema) (n : Names) where
         source,
       )
 
-  MapS_back : (x : tree_set.SetExpr) (v : Named) (y : tree.Expr) (at : ℕ) → SetBack x → ExprBack y → SetBack (se.MapS x v y at)
+  MapS_back : (x : tree_set.SetExpr) (v : Named) (y : tree.Expr) (at : ℕ) → SetBack x → ExprBack y → SetBack (se.MapS at x v y)
   MapS_back x v y at gx gy =
       let source = MapS_source_back x v y at gx gy in (
         λ vars content r h.
@@ -364,40 +364,40 @@ module _ (s : Schema) (n : Names) where
         source,
       )
 
-  FlatS_back : (x : tree_set.SetExpr) (v : Named) (y : tree_set.SetExpr) (at : ℕ) → SetBack x → SetBack y → SetBack (se.FlatS x v y at)
+  FlatS_back : (x : tree_set.SetExpr) (v : Named) (y : tree_set.SetExpr) (at : ℕ) → SetBack x → SetBack y → SetBack (se.FlatS at x v y)
   FlatS_back x v y at gx gy = (
     λ vars content r h.
         let k = part.FlatS_parts s vars content x v y at r h in
         let over = gx.1 vars k.0 k.3 in
         as_seen (ts.FlatS k.0.set k.0.model v.name k.2) r (flat_mapped (set_of k.0.set) k.0.model v.name (set_of k.2)) _ (seen.FlatS_seen k.0.set k.0.model v.name k.2) k.6
-        (ap (λ z. se.FlatS z (named v.name) (written_set n (set_of k.2)) 0) over ∙ ap (λ z. se.FlatS (stripped_set x) (named v.name) z 0) (gy.0 k.1 content k.2 k.5) ∙ sym (layer.FlatS_stripped x v y at)),
-    λ vars r h. no_source vars (se.FlatS x v y at) at r (form.FlatS_no_source s vars x v y at) h,
+        (ap (λ z. se.FlatS 0 z (named v.name) (written_set n (set_of k.2))) over ∙ ap (λ z. se.FlatS 0 (stripped_set x) (named v.name) z) (gy.0 k.1 content k.2 k.5) ∙ sym (layer.FlatS_stripped x v y at)),
+    λ vars r h. no_source vars (se.FlatS at x v y) at r (form.FlatS_no_source s vars x v y at) h,
   )
 
-  IfS_back : (c : tree.Expr) (x y : tree_set.SetExpr) (at : ℕ) → ExprBack c → SetBack x → SetBack y → SetBack (se.IfS c x y at)
+  IfS_back : (c : tree.Expr) (x y : tree_set.SetExpr) (at : ℕ) → ExprBack c → SetBack x → SetBack y → SetBack (se.IfS at c x y)
   IfS_back c x y at gc gx gy = (
     λ vars content r h.
         let k = part.IfS_parts s vars content c x y at r h in
         let a = gc vars _ k.0 k.3 in
         as_seen (ts.IfS k.0.tree k.1 k.2) r (if_set (expr_of k.0.tree) (set_of k.1) (set_of k.2)) _ (seen.IfS_seen k.0.tree k.1 k.2) k.6
-        (ap (λ z. se.IfS z (written_set n (set_of k.1)) (written_set n (set_of k.2)) 0) a.0
-        ∙ ap (λ z. se.IfS (stripped_expr c) z (written_set n (set_of k.2)) 0) (gx.0 vars content k.1 k.4)
-        ∙ ap (λ z. se.IfS (stripped_expr c) (stripped_set x) z 0) (gy.0 vars content k.2 k.5)
+        (ap (λ z. se.IfS 0 z (written_set n (set_of k.1)) (written_set n (set_of k.2))) a.0
+        ∙ ap (λ z. se.IfS 0 (stripped_expr c) z (written_set n (set_of k.2))) (gx.0 vars content k.1 k.4)
+        ∙ ap (λ z. se.IfS 0 (stripped_expr c) (stripped_set x) z) (gy.0 vars content k.2 k.5)
         ∙ sym (layer.IfS_stripped c x y at)),
-    λ vars r h. no_source vars (se.IfS c x y at) at r (form.IfS_no_source s vars c x y at) h,
+    λ vars r h. no_source vars (se.IfS at c x y) at r (form.IfS_no_source s vars c x y at) h,
   )
 
-  MatchS_back : (x : tree.Expr) (y : tree_set.SetExpr) (v : Named) (z : tree_set.SetExpr) (at : ℕ) → ExprBack x → SetBack y → SetBack z → SetBack (se.MatchS x y v z at)
+  MatchS_back : (x : tree.Expr) (y : tree_set.SetExpr) (v : Named) (z : tree_set.SetExpr) (at : ℕ) → ExprBack x → SetBack y → SetBack z → SetBack (se.MatchS at x y v z)
   MatchS_back x y v z at gx gy gz = (
     λ vars content r h.
         let k = part.MatchS_parts s vars content x y v z at r h in
         let a = gx vars None k.0 k.5 in
         as_seen (ts.MatchS k.0.tree k.2 v.name k.4) r (match_set (expr_of k.0.tree) (set_of k.2) v.name (set_of k.4)) _ (seen.MatchS_seen k.0.tree k.2 v.name k.4) k.10
-        (ap (λ w. se.MatchS w (written_set n (set_of k.2)) (named v.name) (written_set n (set_of k.4)) 0) a.0
-        ∙ ap (λ w. se.MatchS (stripped_expr x) w (named v.name) (written_set n (set_of k.4)) 0) (gy.0 vars content k.2 k.7)
-        ∙ ap (λ w. se.MatchS (stripped_expr x) (stripped_set y) (named v.name) w 0) (gz.0 k.3 content k.4 k.9)
+        (ap (λ w. se.MatchS 0 w (written_set n (set_of k.2)) (named v.name) (written_set n (set_of k.4))) a.0
+        ∙ ap (λ w. se.MatchS 0 (stripped_expr x) w (named v.name) (written_set n (set_of k.4))) (gy.0 vars content k.2 k.7)
+        ∙ ap (λ w. se.MatchS 0 (stripped_expr x) (stripped_set y) (named v.name) w) (gz.0 k.3 content k.4 k.9)
         ∙ sym (layer.MatchS_stripped x y v z at)),
-    λ vars r h. no_source vars (se.MatchS x y v z at) at r (form.MatchS_no_source s vars x y v z at) h,
+    λ vars r h. no_source vars (se.MatchS at x y v z) at r (form.MatchS_no_source s vars x y v z at) h,
   )
 
   One_back : (x : tree.Expr) → ExprBack x → ItemBack (i.One x)
@@ -419,25 +419,25 @@ module _ (s : Schema) (n : Names) where
         let there : (k.0, l.0.0, l.0.1) ≡ field = ok_same _ field l.2 in
         ap (λ (z : ℕ × ℕ × TTy). n.field z.0 z.1) (sym there) ∙ right.field k.0 f.name l.0.0 (ap (option_map (λ (z : ℕ × TTy). z.0)) (known (field_named s k.0 f.name) (Unknown f.at) l.0 l.1))
 
-    Get_back : (x : tree.Expr) (f : Named) (at : ℕ) → ExprBack x → ExprBack (e.Get x f at)
+    Get_back : (x : tree.Expr) (f : Named) (at : ℕ) → ExprBack x → ExprBack (e.Get at x f)
     Get_back x f at gx vars asked r h =
         let k = part.Get_parts s vars asked x f at r h in
         let a = gx vars None k.0 k.2 in
         fitted asked at k.1.2 (t.Get k.0.tree k.1.0 k.1.1) (get (expr_of k.0.tree) k.1.0 k.1.1) _ r (seen.Get_seen k.0.tree k.1.0 k.1.1) k.4
-        (ap (λ z. e.Get z (named (n.field k.1.0 k.1.1)) 0) a.0 ∙ ap (λ z. e.Get (stripped_expr x) (named z) 0) (field_right k.0.ty k.0.at f k.1 k.3) ∙ sym (layer.Get_stripped x f at), refl)
+        (ap (λ z. e.Get 0 z (named (n.field k.1.0 k.1.1))) a.0 ∙ ap (λ z. e.Get 0 (stripped_expr x) (named z)) (field_right k.0.ty k.0.at f k.1 k.3) ∙ sym (layer.Get_stripped x f at), refl)
 
-    Find_source_back : (model : Named) (xs : List SureFilter) (at : ℕ) → SourceBack (se.Find model (map (λ (x : SureFilter). x.0) xs) at)
+    Find_source_back : (model : Named) (xs : List SureFilter) (at : ℕ) → SourceBack (se.Find at model (map (λ (x : SureFilter). x.0) xs))
     Find_source_back model xs at vars r h =
         let plain : List Filter = map (λ (x : SureFilter). x.0) xs in
         let k = part.Find_source_parts s vars model plain at r h in
         let each = each_ok (typed_filter s vars k.0) plain [] k.1 k.3 in
         let all : EachOk (typed_filter s vars k.0) plain k.1 = subst (EachOk (typed_filter s vars k.0) plain) each.1 each.2 in
         source_seen model.at k.0 (ts.Find k.0 k.1) (find k.0 (filters_of (map filter_of k.1))) _ r (seen.Find_seen k.0 k.1) k.4
-        (ap (λ ys. se.Find (named (n.model k.0)) ys 0) (filters_back vars k.0 xs k.1 all)
-        ∙ ap (λ z. se.Find (named z) (map stripped_filter plain) 0) (right.model model.name k.0 (known (model_named s model.name) (Unknown model.at) k.0 k.2))
+        (ap (λ ys. se.Find 0 (named (n.model k.0)) ys) (filters_back vars k.0 xs k.1 all)
+        ∙ ap (λ z. se.Find 0 (named z) (map stripped_filter plain)) (right.model model.name k.0 (known (model_named s model.name) (Unknown model.at) k.0 k.2))
         ∙ sym (layer.Find_stripped model plain at))
 
-    Find_back : (model : Named) (xs : List SureFilter) (at : ℕ) → SetBack (se.Find model (map (λ (x : SureFilter). x.0) xs) at)
+    Find_back : (model : Named) (xs : List SureFilter) (at : ℕ) → SetBack (se.Find at model (map (λ (x : SureFilter). x.0) xs))
     Find_back model xs at =
         let source = Find_source_back model xs at in (
           λ vars content r h.
@@ -475,34 +475,34 @@ module _ (s : Schema) (n : Names) where
 
     expr_step : (y : Expr-F SureExpr SureItem SureSet SureFilter)
         → ExprBack (roll-Expr (map-Expr SureExpr SureItem SureSet SureFilter tree.Expr Item tree_set.SetExpr Filter (λ e. e.0) (λ e. e.0) (λ e. e.0) (λ e. e.0) y))
-    expr_step (Expr-F.Flag value at) = subst (ExprBack) (sym (e.rolls-Flag value at)) (Flag_back value at)
-    expr_step (Expr-F.Num value at) = subst (ExprBack) (sym (e.rolls-Num value at)) (Num_back value at)
-    expr_step (Expr-F.Str text at) = subst (ExprBack) (sym (e.rolls-Str text at)) (Str_back text at)
-    expr_step (Expr-F.Var x at) = subst (ExprBack) (sym (e.rolls-Var x at)) (Var_back x at)
+    expr_step (Expr-F.Flag at value) = subst (ExprBack) (sym (e.rolls-Flag at value)) (Flag_back value at)
+    expr_step (Expr-F.Num at value) = subst (ExprBack) (sym (e.rolls-Num at value)) (Num_back value at)
+    expr_step (Expr-F.Str at text) = subst (ExprBack) (sym (e.rolls-Str at text)) (Str_back text at)
+    expr_step (Expr-F.Var at x) = subst (ExprBack) (sym (e.rolls-Var at x)) (Var_back x at)
     expr_step (Expr-F.NoneLit at) = subst (ExprBack) (sym (e.rolls-NoneLit at)) (NoneLit_back at)
-    expr_step (Expr-F.SomeLit x at) = subst (ExprBack) (sym (e.rolls-SomeLit x.0 at)) (SomeLit_back x.0 at x.1)
-    expr_step (Expr-F.Get x f at) = subst (ExprBack) (sym (e.rolls-Get x.0 f at)) (Get_back x.0 f at x.1)
-    expr_step (Expr-F.Cmp op x y at) = subst (ExprBack) (sym (e.rolls-Cmp op x.0 y.0 at)) (Cmp_back op x.0 y.0 at x.1 y.1)
-    expr_step (Expr-F.Member x set at) = subst (ExprBack) (sym (e.rolls-Member x.0 set.0 at)) (Member_back x.0 set.0 at x.1 set.1)
-    expr_step (Expr-F.Not x at) = subst (ExprBack) (sym (e.rolls-Not x.0 at)) (Not_back x.0 at x.1)
-    expr_step (Expr-F.And x y at) = subst (ExprBack) (sym (e.rolls-And x.0 y.0 at)) (And_back x.0 y.0 at x.1 y.1)
-    expr_step (Expr-F.Or x y at) = subst (ExprBack) (sym (e.rolls-Or x.0 y.0 at)) (Or_back x.0 y.0 at x.1 y.1)
-    expr_step (Expr-F.IfE c x y at) = subst (ExprBack) (sym (e.rolls-IfE c.0 x.0 y.0 at)) (IfE_back c.0 x.0 y.0 at c.1 x.1 y.1)
-    expr_step (Expr-F.MatchE x y v z at) = subst (ExprBack) (sym (e.rolls-MatchE x.0 y.0 v z.0 at)) (MatchE_back x.0 y.0 v z.0 at x.1 y.1 z.1)
+    expr_step (Expr-F.SomeLit at x) = subst (ExprBack) (sym (e.rolls-SomeLit at x.0)) (SomeLit_back x.0 at x.1)
+    expr_step (Expr-F.Get at x f) = subst (ExprBack) (sym (e.rolls-Get at x.0 f)) (Get_back x.0 f at x.1)
+    expr_step (Expr-F.Cmp at op x y) = subst (ExprBack) (sym (e.rolls-Cmp at op x.0 y.0)) (Cmp_back op x.0 y.0 at x.1 y.1)
+    expr_step (Expr-F.Member at x set) = subst (ExprBack) (sym (e.rolls-Member at x.0 set.0)) (Member_back x.0 set.0 at x.1 set.1)
+    expr_step (Expr-F.Not at x) = subst (ExprBack) (sym (e.rolls-Not at x.0)) (Not_back x.0 at x.1)
+    expr_step (Expr-F.And at x y) = subst (ExprBack) (sym (e.rolls-And at x.0 y.0)) (And_back x.0 y.0 at x.1 y.1)
+    expr_step (Expr-F.Or at x y) = subst (ExprBack) (sym (e.rolls-Or at x.0 y.0)) (Or_back x.0 y.0 at x.1 y.1)
+    expr_step (Expr-F.IfE at c x y) = subst (ExprBack) (sym (e.rolls-IfE at c.0 x.0 y.0)) (IfE_back c.0 x.0 y.0 at c.1 x.1 y.1)
+    expr_step (Expr-F.MatchE at x y (v, z)) = subst (ExprBack) (sym (e.rolls-MatchE at x.0 y.0 (v, z.0))) (MatchE_back x.0 y.0 v z.0 at x.1 y.1 z.1)
 
     set_step : (y : SetExpr-F SureExpr SureItem SureSet SureFilter)
         → SetBack (roll-SetExpr (map-SetExpr SureExpr SureItem SureSet SureFilter tree.Expr Item tree_set.SetExpr Filter (λ e. e.0) (λ e. e.0) (λ e. e.0) (λ e. e.0) y))
-    set_step (SetExpr-F.Everyone word at) = subst (SetBack) (sym (se.rolls-Everyone word at)) (Everyone_back word at)
+    set_step (SetExpr-F.Everyone at word) = subst (SetBack) (sym (se.rolls-Everyone at word)) (Everyone_back word at)
     set_step (SetExpr-F.Nobody at) = subst (SetBack) (sym (se.rolls-Nobody at)) (Nobody_back at)
-    set_step (SetExpr-F.Sum x y at) = subst (SetBack) (sym (se.rolls-Sum x.0 y.0 at)) (Sum_back x.0 y.0 at x.1 y.1)
-    set_step (SetExpr-F.Less x y at) = subst (SetBack) (sym (se.rolls-Less x.0 y.0 at)) (Less_back x.0 y.0 at x.1 y.1)
-    set_step (SetExpr-F.Path x at) = subst (SetBack) (sym (se.rolls-Path x.0 at)) (Path_back x.0 at x.1)
-    set_step (SetExpr-F.MapS x v y at) = subst (SetBack) (sym (se.rolls-MapS x.0 v y.0 at)) (MapS_back x.0 v y.0 at x.1 y.1)
-    set_step (SetExpr-F.FlatS x v y at) = subst (SetBack) (sym (se.rolls-FlatS x.0 v y.0 at)) (FlatS_back x.0 v y.0 at x.1 y.1)
-    set_step (SetExpr-F.IfS c x y at) = subst (SetBack) (sym (se.rolls-IfS c.0 x.0 y.0 at)) (IfS_back c.0 x.0 y.0 at c.1 x.1 y.1)
-    set_step (SetExpr-F.MatchS x y v z at) = subst (SetBack) (sym (se.rolls-MatchS x.0 y.0 v z.0 at)) (MatchS_back x.0 y.0 v z.0 at x.1 y.1 z.1)
-    set_step (SetExpr-F.List xs at) = subst (SetBack) (sym (se.rolls-List (map (λ (x : SureItem). x.0) xs) at)) (List_back xs at)
-    set_step (SetExpr-F.Find model xs at) = subst (SetBack) (sym (se.rolls-Find model (map (λ (x : SureFilter). x.0) xs) at)) (Find_back model xs at)
+    set_step (SetExpr-F.Sum at x y) = subst (SetBack) (sym (se.rolls-Sum at x.0 y.0)) (Sum_back x.0 y.0 at x.1 y.1)
+    set_step (SetExpr-F.Less at x y) = subst (SetBack) (sym (se.rolls-Less at x.0 y.0)) (Less_back x.0 y.0 at x.1 y.1)
+    set_step (SetExpr-F.Path at x) = subst (SetBack) (sym (se.rolls-Path at x.0)) (Path_back x.0 at x.1)
+    set_step (SetExpr-F.MapS at x v y) = subst (SetBack) (sym (se.rolls-MapS at x.0 v y.0)) (MapS_back x.0 v y.0 at x.1 y.1)
+    set_step (SetExpr-F.FlatS at x v y) = subst (SetBack) (sym (se.rolls-FlatS at x.0 v y.0)) (FlatS_back x.0 v y.0 at x.1 y.1)
+    set_step (SetExpr-F.IfS at c x y) = subst (SetBack) (sym (se.rolls-IfS at c.0 x.0 y.0)) (IfS_back c.0 x.0 y.0 at c.1 x.1 y.1)
+    set_step (SetExpr-F.MatchS at x y v z) = subst (SetBack) (sym (se.rolls-MatchS at x.0 y.0 v z.0)) (MatchS_back x.0 y.0 v z.0 at x.1 y.1 z.1)
+    set_step (SetExpr-F.List at xs) = subst (SetBack) (sym (se.rolls-List at (map (λ (x : SureItem). x.0) xs))) (List_back xs at)
+    set_step (SetExpr-F.Find at model xs) = subst (SetBack) (sym (se.rolls-Find at model (map (λ (x : SureFilter). x.0) xs))) (Find_back model xs at)
 
     item_step : (y : Item-F SureExpr SureItem SureSet SureFilter)
         → ItemBack (roll-Item (map-Item SureExpr SureItem SureSet SureFilter tree.Expr Item tree_set.SetExpr Filter (λ e. e.0) (λ e. e.0) (λ e. e.0) (λ e. e.0) y))

@@ -46,45 +46,45 @@ says_not (match_expr x a name b) = false
 
 -- the sides of `less` as they were written: with `>` and `<=` they were exchanged
 abbrev pub sides : CmpOp → tree.Expr → tree.Expr → tree.Expr
-sides Eq low high = e.Cmp Eq low high 0
-sides Ne low high = e.Cmp Ne low high 0
-sides Lt low high = e.Cmp Lt low high 0
-sides Le low high = e.Cmp Le high low 0
-sides Gt low high = e.Cmp Gt high low 0
-sides Ge low high = e.Cmp Ge low high 0
+sides Eq low high = e.Cmp 0 Eq low high
+sides Ne low high = e.Cmp 0 Ne low high
+sides Lt low high = e.Cmp 0 Lt low high
+sides Le low high = e.Cmp 0 Le high low
+sides Gt low high = e.Cmp 0 Gt high low
+sides Ge low high = e.Cmp 0 Ge low high
 
 module _ (names : Names) where
   abbrev mutual
     pub written_expr : Expr → tree.Expr
-    written_expr (flag b) = e.Flag b 0
-    written_expr (num n) = e.Num n 0
-    written_expr (str bytes) = e.Str bytes 0
-    written_expr (var depth name) = e.Var (named name) 0
+    written_expr (flag b) = e.Flag 0 b
+    written_expr (num n) = e.Num 0 n
+    written_expr (str bytes) = e.Str 0 bytes
+    written_expr (var depth name) = e.Var 0 (named name)
     written_expr nothing = e.NoneLit 0
-    written_expr (just x) = e.SomeLit (written_expr x) 0
-    written_expr (get x m f) = e.Get (written_expr x) (named (names.field m f)) 0
-    written_expr (equal a b op) = e.Cmp op (written_expr a) (written_expr b) 0
-    written_expr (iff a b op) = e.Cmp op (written_expr a) (written_expr b) 0
+    written_expr (just x) = e.SomeLit 0 (written_expr x)
+    written_expr (get x m f) = e.Get 0 (written_expr x) (named (names.field m f))
+    written_expr (equal a b op) = e.Cmp 0 op (written_expr a) (written_expr b)
+    written_expr (iff a b op) = e.Cmp 0 op (written_expr a) (written_expr b)
     written_expr (less a b op) = sides op (written_expr a) (written_expr b)
-    written_expr (within x m set) = e.Member (written_expr x) (written_set set) 0
-    written_expr (negation x) = if says_not x then written_expr x else e.Not (written_expr x) 0
-    written_expr (both a b) = e.And (written_expr a) (written_expr b) 0
-    written_expr (either a b) = e.Or (written_expr a) (written_expr b) 0
-    written_expr (if_expr c a b) = e.IfE (written_expr c) (written_expr a) (written_expr b) 0
-    written_expr (match_expr x a name b) = e.MatchE (written_expr x) (written_expr a) (named name) (written_expr b) 0
+    written_expr (within x m set) = e.Member 0 (written_expr x) (written_set set)
+    written_expr (negation x) = if says_not x then written_expr x else e.Not 0 (written_expr x)
+    written_expr (both a b) = e.And 0 (written_expr a) (written_expr b)
+    written_expr (either a b) = e.Or 0 (written_expr a) (written_expr b)
+    written_expr (if_expr c a b) = e.IfE 0 (written_expr c) (written_expr a) (written_expr b)
+    written_expr (match_expr x a name b) = e.MatchE 0 (written_expr x) (written_expr a) (named name, written_expr b)
 
     pub written_set : SetExpr → tree_set.SetExpr
     written_set everyone = s.Everyone 0 0
     written_set nobody = s.Nobody 0
-    written_set (listed items) = s.List (written_items items) 0
-    written_set (union a b) = s.Sum (written_set a) (written_set b) 0
-    written_set (minus a b) = s.Less (written_set a) (written_set b) 0
-    written_set (find m filters) = s.Find (named (names.model m)) (written_filters m filters) 0
-    written_set (path m x) = s.Path (written_expr x) 0
-    written_set (mapped set n name m x) = s.MapS (written_set set) (named name) (written_expr x) 0
-    written_set (flat_mapped set n name body) = s.FlatS (written_set set) (named name) (written_set body) 0
-    written_set (if_set c a b) = s.IfS (written_expr c) (written_set a) (written_set b) 0
-    written_set (match_set x a name b) = s.MatchS (written_expr x) (written_set a) (named name) (written_set b) 0
+    written_set (listed items) = s.List 0 (written_items items)
+    written_set (union a b) = s.Sum 0 (written_set a) (written_set b)
+    written_set (minus a b) = s.Less 0 (written_set a) (written_set b)
+    written_set (find m filters) = s.Find 0 (named (names.model m)) (written_filters m filters)
+    written_set (path m x) = s.Path 0 (written_expr x)
+    written_set (mapped set n name m x) = s.MapS 0 (written_set set) (named name) (written_expr x)
+    written_set (flat_mapped set n name body) = s.FlatS 0 (written_set set) (named name) (written_set body)
+    written_set (if_set c a b) = s.IfS 0 (written_expr c) (written_set a) (written_set b)
+    written_set (match_set x a name b) = s.MatchS 0 (written_expr x) (written_set a) (named name) (written_set b)
 
     pub written_items : Items → List tree_item.Item
     written_items no_items = []

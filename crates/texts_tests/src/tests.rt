@@ -2,13 +2,19 @@
 
 use sc_print::{print_script, print_spec};
 use sc_texts::{SyntaxErr, parse_script, parse_spec};
-use sc_tree::{Script, Spec};
+use sc_tree::{Expr, Script, SetExpr, Spec};
 use std::alloc::Global;
+use std::mem::size_of;
 use std::test::Fail;
 
 mod copies;
 mod refusals;
 mod spellings;
+
+// What the memory of a tree rests on.
+const _: () = prove!(size_of::<Expr>() == 32);
+
+const _: () = prove!(size_of::<SetExpr>() == 40);
 
 /// The specification that a text of these tests spells, each of which is short enough.
 fn spec_of(alloc: Global, text: &[u8]) -> Result<Spec, SyntaxErr> {

@@ -12,7 +12,7 @@ mod scripts;
 mod specs;
 
 fn name(alloc: Global, bytes: &[u8]) -> Result<Name, Fail> {
-    Ok(Name::make(Vec::from_slice(alloc, bytes)?).ok_or("no name")?)
+    Ok(Name::make(alloc, bytes)?.ok_or("no name")?)
 }
 
 fn named(alloc: Global, bytes: &[u8], at: u32) -> Result<Named, Fail> {

@@ -12,7 +12,7 @@ use std::alloc::Global;
 use std::test::Fail;
 
 fn given(alloc: Global, word: &[u8], value: Lit) -> Result<FieldLit, Fail> {
-    let name = Name::make(Vec::from_slice(alloc, word)?).ok_or("no name")?;
+    let name = Name::make(alloc, word)?.ok_or("no name")?;
     Ok(FieldLit {
         name: Named { name, at: 0 },
         value,

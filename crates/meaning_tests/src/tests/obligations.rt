@@ -8,12 +8,15 @@ use std::test::Fail;
 
 const EMAIL: u32 = 0;
 
+/// The number of `age`.
 pub const AGE: u32 = 1;
 
+/// The number of `isAdmin`.
 pub const IS_ADMIN: u32 = 2;
 
 const SECRET: u32 = 3;
 
+/// The number of `manager`.
 pub const MANAGER: u32 = 4;
 
 /// The commands of the script's obligations, in their order.

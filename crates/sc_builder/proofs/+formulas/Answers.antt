@@ -918,7 +918,7 @@ formulas::member-returns-in-MapS t c =
     let w = written_in st c.args.scene.now in
     let env = scene_data st c.args.scene.now in
     makes_same _ _ _ _ _
-    (mapped_is s w env c.args.sign c.args.above (who_data c.args.who.now) c.args.set.now c.get-in-MapS.result.now c.in-MapS.source c.in-MapS.n c.in-MapS.field-2 c.in-MapS.m c.in-MapS.e c.in-MapS.is c.get-in-MapS.ensures)
+    (mapped_is s w env c.args.sign c.args.above (who_data c.args.who.now) c.args.set.now c.get-in-MapS.result.now c.in-MapS.source c.in-MapS.n c.in-MapS.field-2 c.in-MapS.m c.get-in-MapS-2.result.now c.in-MapS.e c.in-MapS.is c.get-in-MapS.ensures c.get-in-MapS-2.ensures)
     c.mapped.ensures
 
 pub formulas::member-returns-in-FlatS : goal.formulas::member-returns-in-FlatS
@@ -938,7 +938,7 @@ formulas::member-returns-in-IfS t c =
     let w = written_in st c.args.scene.now in
     let env = scene_data st c.args.scene.now in
     makes_same _ _ _ _ _
-    (if_is s w env c.args.sign c.args.above (who_data c.args.who.now) c.args.set.now c.get-in-IfS.result.now c.in-IfS.a c.get-in-IfS-2.result.now c.in-IfS.b c.in-IfS.c c.in-IfS.is c.get-in-IfS.ensures c.get-in-IfS-2.ensures)
+    (if_is s w env c.args.sign c.args.above (who_data c.args.who.now) c.args.set.now c.get-in-IfS-2.result.now c.in-IfS.a c.get-in-IfS-3.result.now c.in-IfS.b c.get-in-IfS.result.now c.in-IfS.c c.in-IfS.is c.get-in-IfS-2.ensures c.get-in-IfS-3.ensures c.get-in-IfS.ensures)
     c.choose.ensures
 
 pub formulas::member-returns-in-MatchS : goal.formulas::member-returns-in-MatchS
@@ -948,7 +948,7 @@ formulas::member-returns-in-MatchS t c =
     let w = written_in st c.args.scene.now in
     let env = scene_data st c.args.scene.now in
     makes_same _ _ _ _ _
-    (match_is s w env c.args.sign c.args.above (who_data c.args.who.now) c.args.set.now c.get-in-MatchS.result.now c.in-MatchS.a c.get-in-MatchS-2.result.now c.in-MatchS.c c.in-MatchS.of c.in-MatchS.field-2 c.in-MatchS.is c.get-in-MatchS.ensures c.get-in-MatchS-2.ensures)
+    (match_is s w env c.args.sign c.args.above (who_data c.args.who.now) c.args.set.now c.get-in-MatchS.result.now c.in-MatchS.a c.get-in-MatchS-2.result.now c.in-MatchS.c c.get-in-MatchS-3.result.now c.in-MatchS.of c.in-MatchS.field-2 c.in-MatchS.is c.get-in-MatchS.ensures c.get-in-MatchS-2.ensures c.get-in-MatchS-3.ensures)
     c.walk-in-MatchS.ensures
 
 pub formulas::mapped-returns-in_err-inner : goal.formulas::mapped-returns-in_err-inner

@@ -33,6 +33,12 @@ decreases-formulas::get l = l.fuel
 abbrev pub decreases-formulas::field : goal.decreases-formulas::field
 decreases-formulas::field l = l.fuel
 
+abbrev pub decreases-formulas::chained : goal.decreases-formulas::chained
+decreases-formulas::chained l = l.fuel
+
+abbrev pub decreases-formulas::chained_far : goal.decreases-formulas::chained_far
+decreases-formulas::chained_far l = l.fuel
+
 abbrev pub decreases-formulas::take_apart : goal.decreases-formulas::take_apart
 decreases-formulas::take_apart l = l.fuel
 

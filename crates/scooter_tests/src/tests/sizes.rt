@@ -287,7 +287,7 @@ fn nested(alloc: Global, fields: u16) -> Result<Vec<u8>, AllocError> {
     Ok(text)
 }
 
-/// What goes too deep for the stack is refused for want of memory.
+/// Terms that are long are refused for their size, and not for how deep a walk through them goes.
 #[test]
 fn added_fields_within_added_fields(rt: HostRuntime) -> Result<(), Fail> {
     let spec = b"principal model User {
@@ -299,7 +299,8 @@ fn added_fields_within_added_fields(rt: HostRuntime) -> Result<(), Fail> {
     for (fields, status) in [
         (9, Status::Done),
         (10, Status::TooLarge),
-        (12, Status::OutOfMemory),
+        (13, Status::TooLarge),
+        (14, Status::TypesRefused),
     ] {
         let script = nested(rt.alloc(), fields)?;
         let ended = check_texts(rt.alloc(), spec, script.as_slice())?;

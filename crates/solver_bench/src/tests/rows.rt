@@ -2,6 +2,7 @@
 
 ghost use Rattle.std.specs.Prelude.{◌≡◌, ◌<◌, ◌+◌, [], length, map, All, IfOk, OnOk};
 ghost use Rattle.sc_solver.specs.Clauses.{IsWithin};
+ghost use Rattle.sc_solver.specs.declared.limits.TheConstants.{TOO_MANY};
 
 use sc_solver::{Answer, PLit, Prop, Solver};
 use sc_theory::{Equality, EqualityLit, Theory};
@@ -71,7 +72,7 @@ fn answer(mut solver: Solver<Equality>) -> Answer {
 /// Adds each clause.
 fn add_each<T: Theory>(solver: &mut Solver<T>, clauses: &[&[PLit]]) -> Result<(), AllocError>
     requires within { All (λ c. IsWithin solver.old.vars c.now) clauses.now }
-    requires few { length solver.old.clauses + length clauses.now < 2000000000 }
+    requires few { length solver.old.clauses + length clauses.now < TOO_MANY }
     ensures vars { solver.new.vars ≡ solver.old.vars }
     ensures count { OnOk result (length solver.new.clauses
         ≡ length solver.old.clauses + length clauses.now) }
@@ -86,7 +87,7 @@ fn add_each<T: Theory>(solver: &mut Solver<T>, clauses: &[&[PLit]]) -> Result<()
 /// which would drop it where it stands.
 fn answer_with(mut solver: Solver<Equality>, clauses: &[&[PLit]]) -> Result<Answer, AllocError>
     requires within { All (λ c. IsWithin solver.vars c.now) clauses.now }
-    requires few { length solver.clauses + length clauses.now < 2000000000 }
+    requires few { length solver.clauses + length clauses.now < TOO_MANY }
 {
     let added = add_each(&mut solver, clauses);
     let answer = answer(solver);

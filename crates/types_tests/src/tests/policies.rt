@@ -66,7 +66,7 @@ fn app(alloc: Global) -> Result<Schema, Fail> {
 
 /// The variable u.
 fn u(alloc: Global, at: u32) -> Result<Expr, Fail> {
-    Ok(Expr::Var(named(alloc, b"u", at)?, at))
+    Ok(Expr::Var(at, named(alloc, b"u", at)?))
 }
 
 /// A field of u.
@@ -74,14 +74,15 @@ fn of_u(alloc: Global, bytes: &[u8], at: u32) -> Result<Expr, Fail>
     requires { at < 100 }
 {
     let of = Boxed::new(alloc, u(alloc, at)?)?;
-    Ok(Expr::Get(of, named(alloc, bytes, at + 2)?, at))
+    let field = Boxed::new(alloc, named(alloc, bytes, at + 2)?)?;
+    Ok(Expr::Get(at, of, field))
 }
 
 /// `[item]`
 fn list(alloc: Global, item: Item, at: u32) -> Result<SetExpr, Fail> {
     let mut items = Items::new(alloc);
     items.push(item)?;
-    Ok(SetExpr::List(items, at))
+    Ok(SetExpr::List(at, items))
 }
 
 /// `u -> set`
@@ -98,9 +99,10 @@ fn listed(alloc: Global, item: Item) -> Result<Boxed<Policy>, Fail> {
 /// `match u.boss with none -> 1 | some NAME -> 2`
 fn by_boss(alloc: Global, bytes: &[u8]) -> Result<Expr, Fail> {
     let of = Boxed::new(alloc, of_u(alloc, b"boss", 11)?)?;
-    let none = Boxed::new(alloc, Expr::Num(1, 31))?;
-    let some = Boxed::new(alloc, Expr::Num(2, 45))?;
-    Ok(Expr::MatchE(of, none, named(alloc, bytes, 40)?, some, 5))
+    let none = Boxed::new(alloc, Expr::Num(31, 1))?;
+    let name = named(alloc, bytes, 40)?;
+    let some = Boxed::new(alloc, (name, Expr::Num(45, 2)))?;
+    Ok(Expr::MatchE(5, of, none, some))
 }
 
 /// Why a policy on records of the model has no type, if it has none.
@@ -139,10 +141,11 @@ fn a_static_is_listed_where_it_is_known(rt: HostRuntime) -> Result<(), Fail> {
 
 /// `u -> User::Find({}).map(u -> u)`
 fn hidden(alloc: Global) -> Result<Boxed<Policy>, Fail> {
-    let users = SetExpr::Find(named(alloc, b"User", 5)?, Items::new(alloc), 5);
-    let users = Boxed::new(alloc, users)?;
-    let x = named(alloc, b"u", 24)?;
-    fun(alloc, SetExpr::MapS(users, x, u(alloc, 29)?, 5))
+    let name = Boxed::new(alloc, named(alloc, b"User", 5)?)?;
+    let users = Boxed::new(alloc, SetExpr::Find(5, name, Items::new(alloc)))?;
+    let x = Boxed::new(alloc, named(alloc, b"u", 24)?)?;
+    let each = Boxed::new(alloc, u(alloc, 29)?)?;
+    fun(alloc, SetExpr::MapS(5, users, x, each))
 }
 
 #[test]
@@ -171,7 +174,7 @@ fn a_set_of_users_holds_users_alone(rt: HostRuntime) -> Result<(), Fail> {
     let users = TTy::Set(0);
     let own = list(alloc, Item::One(u(alloc, 6)?), 5)?;
     assert_eq!(rt; init_fault(alloc, users, Init::OfSet(own))?, None);
-    let everyone = init_fault(alloc, users, Init::OfSet(SetExpr::Everyone(5, 5)))?;
-    assert_eq!(rt; everyone, Some(TypeErr::WrongType { at: 5 }));
+    let everyone = init_fault(alloc, users, Init::OfSet(SetExpr::Everyone(5, 6)))?;
+    assert_eq!(rt; everyone, Some(TypeErr::WrongType { at: 6 }));
     Ok(())
 }

@@ -39,13 +39,13 @@ fn schema(alloc: Global) -> Result<Schema, Fail>
 /// `test == true`
 fn equal_to_true(alloc: Global, test: Expr) -> Result<Expr, Fail> {
     let left = Boxed::new(alloc, test)?;
-    let right = Boxed::new(alloc, Expr::Flag(true, 50))?;
-    Ok(Expr::Cmp(CmpOp::Eq, left, right, 42))
+    let right = Boxed::new(alloc, Expr::Flag(50, true))?;
+    Ok(Expr::Cmp(42, CmpOp::Eq, left, right))
 }
 
 /// `true == true ..`, with so many signs.
 fn signs(alloc: Global, count: u32) -> Result<Expr, Fail> {
-    let mut test = Expr::Flag(true, 42);
+    let mut test = Expr::Flag(42, true);
     for _ in 0..count {
         test = equal_to_true(alloc, test)?;
     }
@@ -56,7 +56,8 @@ fn signs(alloc: Global, count: u32) -> Result<Expr, Fail> {
 fn choice(alloc: Global, test: Expr) -> Result<SetExpr, Fail> {
     let everyone = Boxed::new(alloc, SetExpr::Everyone(90, 90))?;
     let nobody = Boxed::new(alloc, SetExpr::Nobody(99))?;
-    Ok(SetExpr::IfS(test, everyone, nobody, 39))
+    let test = Boxed::new(alloc, test)?;
+    Ok(SetExpr::IfS(39, test, everyone, nobody))
 }
 
 /// A policy with so many signs. A truth value has one node, and each sign and the choice make 5

@@ -16,8 +16,9 @@ returns-in-Find c =
 pub returns-in-MapS : goal.returns-in-MapS
 returns-in-MapS c =
     ok_as c.mapped_place.result _ _ (λ place h. in_set_form place c.args.set.now _ c.args.number
-    (ap (λ (a : TSet). mapped (set_of a) c.in-MapS.n c.in-MapS.field-2 c.in-MapS.field-3 (expr_of c.in-MapS.e)) c.get-in-MapS.ensures
-    ∙ sym (ap set_of c.in-MapS.is ∙ MapS_set c.in-MapS.of c.in-MapS.n c.in-MapS.field-2 c.in-MapS.field-3 c.in-MapS.e)) (h c.in-MapS.field-2 c.in-MapS.field-3)) c.mapped_place.ensures
+    (ap (λ (a : TSet). mapped (set_of a) c.in-MapS.n c.in-MapS.field-2 c.in-MapS.field-3 (expr_of c.get-in-MapS-2.result.now)) c.get-in-MapS.ensures
+    ∙ (ap (λ (e : TExpr). mapped (set_of c.in-MapS.of) c.in-MapS.n c.in-MapS.field-2 c.in-MapS.field-3 (expr_of e)) c.get-in-MapS-2.ensures
+    ∙ sym (ap set_of c.in-MapS.is ∙ MapS_set c.in-MapS.of c.in-MapS.n c.in-MapS.field-2 c.in-MapS.field-3 c.in-MapS.e))) (h c.in-MapS.field-2 c.in-MapS.field-3)) c.mapped_place.ensures
 
 pub returns-in-FlatS : goal.returns-in-FlatS
 returns-in-FlatS c =
@@ -29,6 +30,7 @@ returns-in-FlatS c =
 pub returns-in-MatchS : goal.returns-in-MatchS
 returns-in-MatchS c =
     ok_as c.match_set_place.result _ _ (λ place h. in_set_form place c.args.set.now _ c.args.number
-    (ap (λ (a : TSet). match_set (expr_of c.in-MatchS.of) (set_of a) c.in-MatchS.field-2 (set_of c.get-in-MatchS-2.result.now)) c.get-in-MatchS.ensures
-    ∙ (ap (λ (a : TSet). match_set (expr_of c.in-MatchS.of) (set_of c.in-MatchS.a) c.in-MatchS.field-2 (set_of a)) c.get-in-MatchS-2.ensures
-    ∙ sym (ap set_of c.in-MatchS.is ∙ MatchS_set c.in-MatchS.of c.in-MatchS.a c.in-MatchS.field-2 c.in-MatchS.c))) (h c.in-MatchS.field-2)) c.match_set_place.ensures
+    (ap (λ (e : TExpr). match_set (expr_of e) (set_of c.get-in-MatchS-2.result.now) c.in-MatchS.field-2 (set_of c.get-in-MatchS-3.result.now)) c.get-in-MatchS.ensures
+    ∙ (ap (λ (a : TSet). match_set (expr_of c.in-MatchS.of) (set_of a) c.in-MatchS.field-2 (set_of c.get-in-MatchS-3.result.now)) c.get-in-MatchS-2.ensures
+    ∙ (ap (λ (a : TSet). match_set (expr_of c.in-MatchS.of) (set_of c.in-MatchS.a) c.in-MatchS.field-2 (set_of a)) c.get-in-MatchS-3.ensures
+    ∙ sym (ap set_of c.in-MatchS.is ∙ MatchS_set c.in-MatchS.of c.in-MatchS.a c.in-MatchS.field-2 c.in-MatchS.c)))) (h c.in-MatchS.field-2)) c.match_set_place.ensures

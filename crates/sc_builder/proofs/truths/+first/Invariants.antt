@@ -14,3 +14,9 @@ decreases-first_get l = l.fuel
 
 abbrev pub decreases-first_field : goal.decreases-first_field
 decreases-first_field l = l.fuel
+
+abbrev pub decreases-first_chained : goal.decreases-first_chained
+decreases-first_chained l = l.fuel
+
+abbrev pub decreases-first_chained_far : goal.decreases-first_chained_far
+decreases-first_chained_far l = l.fuel

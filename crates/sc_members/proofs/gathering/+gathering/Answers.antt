@@ -39,7 +39,7 @@ gather-returns-in_ok-ys-in-MapS t c =
     let sources : c.as_slice-in-MapS.result.now ≡ filter (λ y. member d env source (Rec n y)) (ids_of d n)
     = c.as_slice-in-MapS.ensures.value ∙ c.in_ok-sources-in-MapS.ensures ∙ ap (λ u. filter (λ y. member d env (view.set_of u) (Rec n y)) (ids_of d n)) c.get-in-MapS.ensures in
     told-by c.records-in-MapS.result has (λ q. is_one_of (map (λ y. Rec m y) c.as_slice-in-MapS-2.result.now) q) (member d env (view.set_of c.args.set.now))
-    (λ q. ap (λ ids. is_one_of (map (λ y. Rec m y) ids) q) (c.as_slice-in-MapS-2.ensures.value ∙ c.in_ok-ys-in-MapS.ensures)
+    (λ q. ap (λ ids. is_one_of (map (λ y. Rec m y) ids) q) (c.as_slice-in-MapS-2.ensures.value ∙ rw c.get-in-MapS-2.ensures at c.in_ok-ys-in-MapS.ensures)
     ∙ images-gathered d env m value c.as_slice-in-MapS.result.now q
     ∙ ap (list_any (λ y. is_record m (value y) q)) sources
     ∙ any-filtered (λ y. member d env source (Rec n y)) (λ y. is_record m (value y) q) (ids_of d n)

@@ -12,7 +12,7 @@ pub holds-returns-in-MapS : goal.holds-returns-in-MapS
 holds-returns-in-MapS t c =
     mapped-from c.args.database.now (env_data c.args.env.now) c.args.who c.get-in-MapS.result.now c.in-MapS.source c.args.set.now c.in-MapS.n c.in-MapS.field-2
     c.in-MapS.m c.in-MapS.e c.as_slice-in-MapS.result.now c.maps_to.result c.get-in-MapS.ensures c.in-MapS.is
-    (c.as_slice-in-MapS.ensures.value ∙ c.in_ok-sources-in-MapS.ensures) c.maps_to.ensures
+    (c.as_slice-in-MapS.ensures.value ∙ c.in_ok-sources-in-MapS.ensures) (rw c.get-in-MapS-2.ensures at c.maps_to.ensures)
 
 pub holds-returns-in-FlatS : goal.holds-returns-in-FlatS
 holds-returns-in-FlatS t c =

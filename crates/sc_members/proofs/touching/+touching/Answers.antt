@@ -46,7 +46,7 @@ touch_set-returns-in_ok-sources-in-MapS t c =
     (λ y. member d env (view.set_of source) (Rec c.in-MapS.n y)) (λ y. touched d (env ++ Id y ∷ []) (view.expr_of c.in-MapS.e)) (ids_of d c.in-MapS.n) c.in_ok-sources-in-MapS.sources.items
     (rw c.get-in-MapS.ensures at c.in_ok-touch_set-in-MapS.ensures) (rw c.get-in-MapS-2.ensures at c.in_ok-sources-in-MapS.ensures)
     (ap (λ u. set_touched d env (view.set_of u)) c.in-MapS.is ∙ ap (set_touched d env) (MapS_is source c.in-MapS.n c.in-MapS.field-2 c.in-MapS.field-3 c.in-MapS.e))
-    (rw c.as_slice-in-MapS.ensures.value at c.touch_at_each.ensures)
+    (rw (c.as_slice-in-MapS.ensures.value, c.get-in-MapS-3.ensures) at c.touch_at_each.ensures)
 
 pub touch_set-returns-in_ok-sources-in-FlatS : goal.touch_set-returns-in_ok-sources-in-FlatS
 touch_set-returns-in_ok-sources-in-FlatS t c =
@@ -73,7 +73,7 @@ touch_set-returns-then-branch t c =
     let is : truth_of (value_of d env (view.expr_of c.in-IfS.c)) ≡ true = cc (c.in_ok-truth_at-in-IfS.ensures, c.if-branch.true) in
     if-read r c.args.found.now.items mid new
     (touched d env (view.expr_of c.in-IfS.c)) (set_touched d env (view.set_of c.args.set.now)) yes no b
-    c.in_ok-touch-in-IfS.ensures
+    (rw c.get-c.ensures at c.in_ok-touch-in-IfS.ensures)
     (ap (λ u. set_touched d env (view.set_of u)) c.in-IfS.is ∙ ap (set_touched d env) (IfS_is c.in-IfS.c c.in-IfS.a c.in-IfS.b))
     (rw is (rw c.get-then-branch.ensures at c.touch_set-then-branch.ensures))
 
@@ -90,7 +90,7 @@ touch_set-returns-else-branch t c =
     let is : truth_of (value_of d env (view.expr_of c.in-IfS.c)) ≡ false = cc (c.in_ok-truth_at-in-IfS.ensures, c.if-branch.false) in
     if-read r c.args.found.now.items mid new
     (touched d env (view.expr_of c.in-IfS.c)) (set_touched d env (view.set_of c.args.set.now)) yes no b
-    c.in_ok-touch-in-IfS.ensures
+    (rw c.get-c.ensures at c.in_ok-touch-in-IfS.ensures)
     (ap (λ u. set_touched d env (view.set_of u)) c.in-IfS.is ∙ ap (set_touched d env) (IfS_is c.in-IfS.c c.in-IfS.a c.in-IfS.b))
     (rw is (rw c.get-else-branch.ensures at c.touch_set-else-branch.ensures))
 
@@ -102,7 +102,7 @@ touch_set-returns-in-Some t c =
     match-some c.touch_set-in-Some.result c.args.found.now.items c.touch-in-MatchS.new.found.items c.touch_set-in-Some.new.found.items
     (touched d env (view.expr_of of)) (set_touched d env (view.set_of c.in-MatchS.a)) (set_touched d env (view.set_of c.args.set.now))
     (λ inner. set_touched d inner (view.set_of c.in-MatchS.c)) env (value_of d env (view.expr_of of)) (λ all. env_data all.items) c.in_ok-inner-in-MatchS.field-0 c.in-Some.inner
-    c.in_ok-touch-in-MatchS.ensures c.in_ok-inner-in-MatchS.ensures c.in-Some.is
+    (rw c.get-of.ensures at c.in_ok-touch-in-MatchS.ensures) (rw c.get-of.ensures at c.in_ok-inner-in-MatchS.ensures) c.in-Some.is
     (ap (λ u. set_touched d env (view.set_of u)) c.in-MatchS.is ∙ ap (set_touched d env) (MatchS_is of c.in-MatchS.a c.in-MatchS.field-2 c.in-MatchS.c))
     (rw (c.get-in-Some.ensures, c.as_slice-in-Some.ensures.value) at c.touch_set-in-Some.ensures)
 
@@ -114,7 +114,7 @@ touch_set-returns-in-None t c =
     match-none c.touch_set-in-None.result c.args.found.now.items c.touch-in-MatchS.new.found.items c.touch_set-in-None.new.found.items
     (touched d env (view.expr_of of)) (set_touched d env (view.set_of c.in-MatchS.a)) (set_touched d env (view.set_of c.args.set.now))
     (λ inner. set_touched d inner (view.set_of c.in-MatchS.c)) env (value_of d env (view.expr_of of)) (λ all. env_data all.items) c.in_ok-inner-in-MatchS.field-0
-    c.in_ok-touch-in-MatchS.ensures c.in_ok-inner-in-MatchS.ensures c.in-None.is
+    (rw c.get-of.ensures at c.in_ok-touch-in-MatchS.ensures) (rw c.get-of.ensures at c.in_ok-inner-in-MatchS.ensures) c.in-None.is
     (ap (λ u. set_touched d env (view.set_of u)) c.in-MatchS.is ∙ ap (set_touched d env) (MatchS_is of c.in-MatchS.a c.in-MatchS.field-2 c.in-MatchS.c))
     (rw c.get-in-None.ensures at c.touch_set-in-None.ensures)
 

@@ -3,6 +3,7 @@ use Rattle.std.proofs.Common.{◌≡◌, ◌∙◌, ◌++◌, ◌∷◌, [], ari
 use Rattle.std.specs.Prelude.{Ok, Err}
 use Rattle.std.proofs.lemmas.Int.{to_z-of_z}
 use Rattle.sc_tree.specs.declared.exprs.Expr.TheVariants as e
+use Rattle.sc_tree.specs.declared.exprs.SetExpr.TheVariants as se
 use Rattle.sc_tree.specs.declared.exprs.Item.{Item}
 use Rattle.sc_tree.specs.declared.exprs.Filter.{Filter}
 use Rattle.sc_schema.specs.declared.trees.TItem.{TItem}
@@ -27,11 +28,11 @@ typed_expr-returns-in-Num t c =
     let fits : SFits w64 value = search rules in
     let passed : ℤ = to_z w64 (of_z w64 value) in
     let kept : passed ≡ value = to_z-of_z w64 value fits in
-    step.Num_last (plain_of c.args.schema.now) c.args.vars.now c.args.asked passed c.in-Num.at c.args.e.now c.fit-in-Num.result (c.in-Num.is ∙ ap (λ (z : ℤ). e.Num z c.in-Num.at) (sym kept)) c.fit-in-Num.ensures
+    step.Num_last (plain_of c.args.schema.now) c.args.vars.now c.args.asked passed c.in-Num.at c.args.e.now c.fit-in-Num.result (c.in-Num.is ∙ ap (λ (z : ℤ). e.Num c.in-Num.at z) (sym kept)) c.fit-in-Num.ensures
 
 pub typed_expr-returns-in-Str : goal.typed_expr-returns-in-Str
 typed_expr-returns-in-Str t c =
-    step.Str_last (plain_of c.args.schema.now) c.args.vars.now c.args.asked c.in-Str.text c.in-Str.at c.args.e.now c.text_of.result c.in-Str.is c.text_of.ensures
+    step.Str_last (plain_of c.args.schema.now) c.args.vars.now c.args.asked c.get.result.now c.in-Str.at c.args.e.now c.text_of.result (c.in-Str.is ∙ ap (λ z. e.Str c.in-Str.at z) (sym c.get.ensures)) c.text_of.ensures
 
 pub typed_expr-returns-in-Var : goal.typed_expr-returns-in-Var
 typed_expr-returns-in-Var t c =
@@ -59,7 +60,7 @@ typed_expr-returns-in_err-of-in-Get t c =
 
 pub typed_expr-returns-in_ok-of-in-Get : goal.typed_expr-returns-in_ok-of-in-Get
 typed_expr-returns-in_ok-of-in-Get t c =
-    step.Get_last (plain_of c.args.schema.now) c.args.vars.now c.args.asked c.in-Get.e c.in-Get.field c.in-Get.at c.args.e.now c.in_ok-of-in-Get.of c.field_of.result c.in-Get.is (cc c.in_ok-of-in-Get.ensures) c.field_of.ensures
+    step.Get_last (plain_of c.args.schema.now) c.args.vars.now c.args.asked c.in-Get.e c.get-in-Get-2.result.now c.in-Get.at c.args.e.now c.in_ok-of-in-Get.of c.field_of.result (c.in-Get.is ∙ ap (λ z. e.Get c.in-Get.at c.in-Get.e z) (sym c.get-in-Get-2.ensures)) (cc c.in_ok-of-in-Get.ensures) c.field_of.ensures
 
 pub typed_expr-returns-in_err-left-in-Cmp : goal.typed_expr-returns-in_err-left-in-Cmp
 typed_expr-returns-in_err-left-in-Cmp t c =
@@ -173,39 +174,39 @@ pub typed_expr-returns-in_err-of-in-MatchE : goal.typed_expr-returns-in_err-of-i
 typed_expr-returns-in_err-of-in-MatchE t c =
     let same : c.from_residual-in_err-of-in-MatchE.result ≡ Err c.in_err-of-in-MatchE.field-0.0 = search rules in
     rw same
-    (step.MatchE_fault0 (plain_of c.args.schema.now) c.args.vars.now c.args.asked c.in-MatchE.e c.in-MatchE.a c.in-MatchE.x c.in-MatchE.b c.in-MatchE.at c.args.e.now c.in_err-of-in-MatchE.field-0.0 c.in-MatchE.is (λ ne. cc (c.in_err-of-in-MatchE.ensures ne)))
+    (step.MatchE_fault0 (plain_of c.args.schema.now) c.args.vars.now c.args.asked c.in-MatchE.e c.in-MatchE.a c.get-in-MatchE.result.now.0 c.get-in-MatchE.result.now.1 c.in-MatchE.at c.args.e.now c.in_err-of-in-MatchE.field-0.0 (c.in-MatchE.is ∙ ap (λ z. e.MatchE c.in-MatchE.at c.in-MatchE.e c.in-MatchE.a z) (sym c.get-in-MatchE.ensures)) (λ ne. cc (c.in_err-of-in-MatchE.ensures ne)))
 
 pub typed_expr-returns-in_err-inside-in-MatchE : goal.typed_expr-returns-in_err-inside-in-MatchE
 typed_expr-returns-in_err-inside-in-MatchE t c =
     let same : c.from_residual-in_err-inside-in-MatchE.result ≡ Err c.in_err-inside-in-MatchE.field-0.0 = search rules in
     rw same
-    (step.MatchE_fault1 (plain_of c.args.schema.now) c.args.vars.now c.args.asked c.in-MatchE.e c.in-MatchE.a c.in-MatchE.x c.in-MatchE.b c.in-MatchE.at c.args.e.now c.in_ok-of-in-MatchE.of c.in_err-inside-in-MatchE.field-0.0 c.in-MatchE.is (cc c.in_ok-of-in-MatchE.ensures) (λ ne. cc c.in_err-inside-in-MatchE.ensures))
+    (step.MatchE_fault1 (plain_of c.args.schema.now) c.args.vars.now c.args.asked c.in-MatchE.e c.in-MatchE.a c.get-in-MatchE.result.now.0 c.get-in-MatchE.result.now.1 c.in-MatchE.at c.args.e.now c.in_ok-of-in-MatchE.of c.in_err-inside-in-MatchE.field-0.0 (c.in-MatchE.is ∙ ap (λ z. e.MatchE c.in-MatchE.at c.in-MatchE.e c.in-MatchE.a z) (sym c.get-in-MatchE.ensures)) (cc c.in_ok-of-in-MatchE.ensures) (λ ne. cc c.in_err-inside-in-MatchE.ensures))
 
 pub typed_expr-returns-in_err-none-in-MatchE : goal.typed_expr-returns-in_err-none-in-MatchE
 typed_expr-returns-in_err-none-in-MatchE t c =
     let same : c.from_residual-in_err-none-in-MatchE.result ≡ Err c.in_err-none-in-MatchE.field-0.0 = search rules in
     rw same
-    (step.MatchE_fault2 (plain_of c.args.schema.now) c.args.vars.now c.args.asked c.in-MatchE.e c.in-MatchE.a c.in-MatchE.x c.in-MatchE.b c.in-MatchE.at c.args.e.now c.in_ok-of-in-MatchE.of c.in_ok-inside-in-MatchE.inside c.in_err-none-in-MatchE.field-0.0 c.in-MatchE.is (cc c.in_ok-of-in-MatchE.ensures) (cc c.in_ok-inside-in-MatchE.ensures) (λ ne. cc (c.in_err-none-in-MatchE.ensures ne)))
+    (step.MatchE_fault2 (plain_of c.args.schema.now) c.args.vars.now c.args.asked c.in-MatchE.e c.in-MatchE.a c.get-in-MatchE.result.now.0 c.get-in-MatchE.result.now.1 c.in-MatchE.at c.args.e.now c.in_ok-of-in-MatchE.of c.in_ok-inside-in-MatchE.inside c.in_err-none-in-MatchE.field-0.0 (c.in-MatchE.is ∙ ap (λ z. e.MatchE c.in-MatchE.at c.in-MatchE.e c.in-MatchE.a z) (sym c.get-in-MatchE.ensures)) (cc c.in_ok-of-in-MatchE.ensures) (cc c.in_ok-inside-in-MatchE.ensures) (λ ne. cc (c.in_err-none-in-MatchE.ensures ne)))
 
 pub typed_expr-returns-in_err-inner-in-MatchE : goal.typed_expr-returns-in_err-inner-in-MatchE
 typed_expr-returns-in_err-inner-in-MatchE t c =
     let same : c.from_residual-in_err-inner-in-MatchE.result ≡ Err c.in_err-inner-in-MatchE.field-0.0 = search rules in
     rw same
-    (step.MatchE_fault3 (plain_of c.args.schema.now) c.args.vars.now c.args.asked c.in-MatchE.e c.in-MatchE.a c.in-MatchE.x c.in-MatchE.b c.in-MatchE.at c.args.e.now c.in_ok-of-in-MatchE.of c.in_ok-inside-in-MatchE.inside c.in_ok-none-in-MatchE.none c.in_err-inner-in-MatchE.field-0.0 c.in-MatchE.is (cc c.in_ok-of-in-MatchE.ensures) (cc c.in_ok-inside-in-MatchE.ensures) (cc c.in_ok-none-in-MatchE.ensures) (λ ne. cc (c.in_err-inner-in-MatchE.ensures ne)))
+    (step.MatchE_fault3 (plain_of c.args.schema.now) c.args.vars.now c.args.asked c.in-MatchE.e c.in-MatchE.a c.get-in-MatchE.result.now.0 c.get-in-MatchE.result.now.1 c.in-MatchE.at c.args.e.now c.in_ok-of-in-MatchE.of c.in_ok-inside-in-MatchE.inside c.in_ok-none-in-MatchE.none c.in_err-inner-in-MatchE.field-0.0 (c.in-MatchE.is ∙ ap (λ z. e.MatchE c.in-MatchE.at c.in-MatchE.e c.in-MatchE.a z) (sym c.get-in-MatchE.ensures)) (cc c.in_ok-of-in-MatchE.ensures) (cc c.in_ok-inside-in-MatchE.ensures) (cc c.in_ok-none-in-MatchE.ensures) (λ ne. cc (c.in_err-inner-in-MatchE.ensures ne)))
 
 pub typed_expr-returns-in_err-some-in-MatchE : goal.typed_expr-returns-in_err-some-in-MatchE
 typed_expr-returns-in_err-some-in-MatchE t c =
     let same : c.from_residual-in_err-some-in-MatchE.result ≡ Err c.in_err-some-in-MatchE.field-0.0 = search rules in
     rw same
-    (step.MatchE_fault4 (plain_of c.args.schema.now) c.args.vars.now c.args.asked c.in-MatchE.e c.in-MatchE.a c.in-MatchE.x c.in-MatchE.b c.in-MatchE.at c.args.e.now c.in_ok-of-in-MatchE.of c.in_ok-inside-in-MatchE.inside c.in_ok-none-in-MatchE.none c.in_ok-inner-in-MatchE.inner c.in_err-some-in-MatchE.field-0.0 c.in-MatchE.is (cc c.in_ok-of-in-MatchE.ensures) (cc c.in_ok-inside-in-MatchE.ensures) (cc c.in_ok-none-in-MatchE.ensures) (cc c.in_ok-inner-in-MatchE.ensures) (λ ne. cc (c.in_err-some-in-MatchE.ensures ne)))
+    (step.MatchE_fault4 (plain_of c.args.schema.now) c.args.vars.now c.args.asked c.in-MatchE.e c.in-MatchE.a c.get-in-MatchE.result.now.0 c.get-in-MatchE.result.now.1 c.in-MatchE.at c.args.e.now c.in_ok-of-in-MatchE.of c.in_ok-inside-in-MatchE.inside c.in_ok-none-in-MatchE.none c.in_ok-inner-in-MatchE.inner c.in_err-some-in-MatchE.field-0.0 (c.in-MatchE.is ∙ ap (λ z. e.MatchE c.in-MatchE.at c.in-MatchE.e c.in-MatchE.a z) (sym c.get-in-MatchE.ensures)) (cc c.in_ok-of-in-MatchE.ensures) (cc c.in_ok-inside-in-MatchE.ensures) (cc c.in_ok-none-in-MatchE.ensures) (cc c.in_ok-inner-in-MatchE.ensures) (λ ne. cc (c.in_err-some-in-MatchE.ensures ne)))
 
 pub typed_expr-returns-in_ok-some-in-MatchE : goal.typed_expr-returns-in_ok-some-in-MatchE
 typed_expr-returns-in_ok-some-in-MatchE t c =
-    step.MatchE_last (plain_of c.args.schema.now) c.args.vars.now c.args.asked c.in-MatchE.e c.in-MatchE.a c.in-MatchE.x c.in-MatchE.b c.in-MatchE.at c.args.e.now c.in_ok-of-in-MatchE.of c.in_ok-inside-in-MatchE.inside c.in_ok-none-in-MatchE.none c.in_ok-inner-in-MatchE.inner c.in_ok-some-in-MatchE.some c.cases.result c.in-MatchE.is (cc c.in_ok-of-in-MatchE.ensures) (cc c.in_ok-inside-in-MatchE.ensures) (cc c.in_ok-none-in-MatchE.ensures) (cc c.in_ok-inner-in-MatchE.ensures) (cc c.in_ok-some-in-MatchE.ensures) c.cases.ensures
+    step.MatchE_last (plain_of c.args.schema.now) c.args.vars.now c.args.asked c.in-MatchE.e c.in-MatchE.a c.get-in-MatchE.result.now.0 c.get-in-MatchE.result.now.1 c.in-MatchE.at c.args.e.now c.in_ok-of-in-MatchE.of c.in_ok-inside-in-MatchE.inside c.in_ok-none-in-MatchE.none c.in_ok-inner-in-MatchE.inner c.in_ok-some-in-MatchE.some c.cases.result (c.in-MatchE.is ∙ ap (λ z. e.MatchE c.in-MatchE.at c.in-MatchE.e c.in-MatchE.a z) (sym c.get-in-MatchE.ensures)) (cc c.in_ok-of-in-MatchE.ensures) (cc c.in_ok-inside-in-MatchE.ensures) (cc c.in_ok-none-in-MatchE.ensures) (cc c.in_ok-inner-in-MatchE.ensures) (cc c.in_ok-some-in-MatchE.ensures) c.cases.ensures
 
 pub typed_set-returns-in-Everyone : goal.typed_set-returns-in-Everyone
 typed_set-returns-in-Everyone t c =
-    set_step.SetEveryone_last (plain_of c.args.schema.now) c.args.vars.now c.args.content c.in-Everyone.word c.in-Everyone.field-1 c.args.set.now c.everyone.result c.in-Everyone.is c.everyone.ensures
+    set_step.SetEveryone_last (plain_of c.args.schema.now) c.args.vars.now c.args.content c.in-Everyone.word c.in-Everyone.field-0 c.args.set.now c.everyone.result c.in-Everyone.is c.everyone.ensures
 
 pub typed_set-returns-in-Nobody : goal.typed_set-returns-in-Nobody
 typed_set-returns-in-Nobody t c =
@@ -215,203 +216,203 @@ pub typed_set-returns-in_err-items-in-List : goal.typed_set-returns-in_err-items
 typed_set-returns-in_err-items-in-List t c =
     let same : c.from_residual.result ≡ Err c.in_err-items-in-List.field-0.0 = search rules in
     rw same
-    (set_step.SetList_fault0 (plain_of c.args.schema.now) c.args.vars.now c.args.content c.in-List.items c.in-List.field-1 c.args.set.now c.in_err-items-in-List.field-0.0 c.in-List.is (λ ne. cc (c.in_err-items-in-List.ensures ne)))
+    (set_step.SetList_fault0 (plain_of c.args.schema.now) c.args.vars.now c.args.content c.in-List.items c.in-List.field-0 c.args.set.now c.in_err-items-in-List.field-0.0 c.in-List.is (λ ne. cc (c.in_err-items-in-List.ensures ne)))
 
 pub typed_set-returns-in_ok-items-in-List : goal.typed_set-returns-in_ok-items-in-List
 typed_set-returns-in_ok-items-in-List t c =
-    set_step.SetList_last (plain_of c.args.schema.now) c.args.vars.now c.args.content c.in-List.items c.in-List.field-1 c.args.set.now c.in_ok-items-in-List.items c.boxed-in-List.result c.in-List.is (cc c.in_ok-items-in-List.ensures) c.boxed-in-List.ensures
+    set_step.SetList_last (plain_of c.args.schema.now) c.args.vars.now c.args.content c.in-List.items c.in-List.field-0 c.args.set.now c.in_ok-items-in-List.items c.boxed-in-List.result c.in-List.is (cc c.in_ok-items-in-List.ensures) c.boxed-in-List.ensures
 
 pub typed_set-returns-in_err-left-in-Sum : goal.typed_set-returns-in_err-left-in-Sum
 typed_set-returns-in_err-left-in-Sum t c =
     let same : c.from_residual-in_err-left-in-Sum.result ≡ Err c.in_err-left-in-Sum.field-0.0 = search rules in
     rw same
-    (set_step.SetSum_fault0 (plain_of c.args.schema.now) c.args.vars.now c.args.content c.in-Sum.a c.in-Sum.b c.in-Sum.field-2 c.args.set.now c.in_err-left-in-Sum.field-0.0 c.in-Sum.is (λ ne. cc (c.in_err-left-in-Sum.ensures ne)))
+    (set_step.SetSum_fault0 (plain_of c.args.schema.now) c.args.vars.now c.args.content c.in-Sum.a c.in-Sum.b c.in-Sum.field-0 c.args.set.now c.in_err-left-in-Sum.field-0.0 c.in-Sum.is (λ ne. cc (c.in_err-left-in-Sum.ensures ne)))
 
 pub typed_set-returns-in_err-right-in-Sum : goal.typed_set-returns-in_err-right-in-Sum
 typed_set-returns-in_err-right-in-Sum t c =
     let same : c.from_residual-in_err-right-in-Sum.result ≡ Err c.in_err-right-in-Sum.field-0.0 = search rules in
     rw same
-    (set_step.SetSum_fault1 (plain_of c.args.schema.now) c.args.vars.now c.args.content c.in-Sum.a c.in-Sum.b c.in-Sum.field-2 c.args.set.now c.in_ok-left-in-Sum.left c.in_err-right-in-Sum.field-0.0 c.in-Sum.is (cc c.in_ok-left-in-Sum.ensures) (λ ne. cc (c.in_err-right-in-Sum.ensures ne)))
+    (set_step.SetSum_fault1 (plain_of c.args.schema.now) c.args.vars.now c.args.content c.in-Sum.a c.in-Sum.b c.in-Sum.field-0 c.args.set.now c.in_ok-left-in-Sum.left c.in_err-right-in-Sum.field-0.0 c.in-Sum.is (cc c.in_ok-left-in-Sum.ensures) (λ ne. cc (c.in_err-right-in-Sum.ensures ne)))
 
 pub typed_set-returns-in_ok-right-in-Sum : goal.typed_set-returns-in_ok-right-in-Sum
 typed_set-returns-in_ok-right-in-Sum t c =
-    set_step.SetSum_last (plain_of c.args.schema.now) c.args.vars.now c.args.content c.in-Sum.a c.in-Sum.b c.in-Sum.field-2 c.args.set.now c.in_ok-left-in-Sum.left c.in_ok-right-in-Sum.right c.boxed-in-Sum.result c.in-Sum.is (cc c.in_ok-left-in-Sum.ensures) (cc c.in_ok-right-in-Sum.ensures) c.boxed-in-Sum.ensures
+    set_step.SetSum_last (plain_of c.args.schema.now) c.args.vars.now c.args.content c.in-Sum.a c.in-Sum.b c.in-Sum.field-0 c.args.set.now c.in_ok-left-in-Sum.left c.in_ok-right-in-Sum.right c.boxed-in-Sum.result c.in-Sum.is (cc c.in_ok-left-in-Sum.ensures) (cc c.in_ok-right-in-Sum.ensures) c.boxed-in-Sum.ensures
 
 pub typed_set-returns-in_err-left-in-Less : goal.typed_set-returns-in_err-left-in-Less
 typed_set-returns-in_err-left-in-Less t c =
     let same : c.from_residual-in_err-left-in-Less.result ≡ Err c.in_err-left-in-Less.field-0.0 = search rules in
     rw same
-    (set_step.SetLess_fault0 (plain_of c.args.schema.now) c.args.vars.now c.args.content c.in-Less.a c.in-Less.b c.in-Less.field-2 c.args.set.now c.in_err-left-in-Less.field-0.0 c.in-Less.is (λ ne. cc (c.in_err-left-in-Less.ensures ne)))
+    (set_step.SetLess_fault0 (plain_of c.args.schema.now) c.args.vars.now c.args.content c.in-Less.a c.in-Less.b c.in-Less.field-0 c.args.set.now c.in_err-left-in-Less.field-0.0 c.in-Less.is (λ ne. cc (c.in_err-left-in-Less.ensures ne)))
 
 pub typed_set-returns-in_err-right-in-Less : goal.typed_set-returns-in_err-right-in-Less
 typed_set-returns-in_err-right-in-Less t c =
     let same : c.from_residual-in_err-right-in-Less.result ≡ Err c.in_err-right-in-Less.field-0.0 = search rules in
     rw same
-    (set_step.SetLess_fault1 (plain_of c.args.schema.now) c.args.vars.now c.args.content c.in-Less.a c.in-Less.b c.in-Less.field-2 c.args.set.now c.in_ok-left-in-Less.left c.in_err-right-in-Less.field-0.0 c.in-Less.is (cc c.in_ok-left-in-Less.ensures) (λ ne. cc (c.in_err-right-in-Less.ensures ne)))
+    (set_step.SetLess_fault1 (plain_of c.args.schema.now) c.args.vars.now c.args.content c.in-Less.a c.in-Less.b c.in-Less.field-0 c.args.set.now c.in_ok-left-in-Less.left c.in_err-right-in-Less.field-0.0 c.in-Less.is (cc c.in_ok-left-in-Less.ensures) (λ ne. cc (c.in_err-right-in-Less.ensures ne)))
 
 pub typed_set-returns-in_ok-right-in-Less : goal.typed_set-returns-in_ok-right-in-Less
 typed_set-returns-in_ok-right-in-Less t c =
-    set_step.SetLess_last (plain_of c.args.schema.now) c.args.vars.now c.args.content c.in-Less.a c.in-Less.b c.in-Less.field-2 c.args.set.now c.in_ok-left-in-Less.left c.in_ok-right-in-Less.right c.boxed-in-Less.result c.in-Less.is (cc c.in_ok-left-in-Less.ensures) (cc c.in_ok-right-in-Less.ensures) c.boxed-in-Less.ensures
+    set_step.SetLess_last (plain_of c.args.schema.now) c.args.vars.now c.args.content c.in-Less.a c.in-Less.b c.in-Less.field-0 c.args.set.now c.in_ok-left-in-Less.left c.in_ok-right-in-Less.right c.boxed-in-Less.result c.in-Less.is (cc c.in_ok-left-in-Less.ensures) (cc c.in_ok-right-in-Less.ensures) c.boxed-in-Less.ensures
 
 pub typed_set-returns-in_err-of-in-Find : goal.typed_set-returns-in_err-of-in-Find
 typed_set-returns-in_err-of-in-Find t c =
     let same : c.from_residual-in_err-of-in-Find.result ≡ Err c.in_err-of-in-Find.field-0.0 = search rules in
     rw same
-    (set_step.SetFind_fault0 (plain_of c.args.schema.now) c.args.vars.now c.args.content c.in-Find.field-0 c.in-Find.field-1 c.in-Find.field-2 c.args.set.now c.in_err-of-in-Find.field-0.0 c.in-Find.is (λ ne. cc (c.in_err-of-in-Find.ensures ne)))
+    (set_step.SetFind_fault0 (plain_of c.args.schema.now) c.args.vars.now c.args.content c.in-Find.field-1 c.in-Find.field-2 c.in-Find.field-0 c.args.set.now c.in_err-of-in-Find.field-0.0 c.in-Find.is (λ ne. cc (c.in_err-of-in-Find.ensures ne)))
 
 pub typed_set-returns-in_ok-of-in-Find : goal.typed_set-returns-in_ok-of-in-Find
 typed_set-returns-in_ok-of-in-Find t c =
-    set_step.SetFind_last (plain_of c.args.schema.now) c.args.vars.now c.args.content c.in-Find.field-0 c.in-Find.field-1 c.in-Find.field-2 c.args.set.now c.in_ok-of-in-Find.of c.chain.result c.in-Find.is (cc c.in_ok-of-in-Find.ensures) c.chain.ensures
+    set_step.SetFind_last (plain_of c.args.schema.now) c.args.vars.now c.args.content c.in-Find.field-1 c.in-Find.field-2 c.in-Find.field-0 c.args.set.now c.in_ok-of-in-Find.of c.chain.result c.in-Find.is (cc c.in_ok-of-in-Find.ensures) c.chain.ensures
 
 pub typed_set-returns-in_err-of-in-Path : goal.typed_set-returns-in_err-of-in-Path
 typed_set-returns-in_err-of-in-Path t c =
     let same : c.from_residual-in_err-of-in-Path.result ≡ Err c.in_err-of-in-Path.field-0.0 = search rules in
     rw same
-    (set_step.SetPath_fault0 (plain_of c.args.schema.now) c.args.vars.now c.args.content c.in-Path.field-0 c.in-Path.field-1 c.args.set.now c.in_err-of-in-Path.field-0.0 c.in-Path.is (λ ne. cc (c.in_err-of-in-Path.ensures ne)))
+    (set_step.SetPath_fault0 (plain_of c.args.schema.now) c.args.vars.now c.args.content c.in-Path.field-1 c.in-Path.field-0 c.args.set.now c.in_err-of-in-Path.field-0.0 c.in-Path.is (λ ne. cc (c.in_err-of-in-Path.ensures ne)))
 
 pub typed_set-returns-in_ok-of-in-Path : goal.typed_set-returns-in_ok-of-in-Path
 typed_set-returns-in_ok-of-in-Path t c =
-    set_step.SetPath_last (plain_of c.args.schema.now) c.args.vars.now c.args.content c.in-Path.field-0 c.in-Path.field-1 c.args.set.now c.in_ok-of-in-Path.of c.chain-in-Path.result c.in-Path.is (cc c.in_ok-of-in-Path.ensures) c.chain-in-Path.ensures
+    set_step.SetPath_last (plain_of c.args.schema.now) c.args.vars.now c.args.content c.in-Path.field-1 c.in-Path.field-0 c.args.set.now c.in_ok-of-in-Path.of c.chain-in-Path.result c.in-Path.is (cc c.in_ok-of-in-Path.ensures) c.chain-in-Path.ensures
 
 pub typed_set-returns-in_err-of-in-MapS : goal.typed_set-returns-in_err-of-in-MapS
 typed_set-returns-in_err-of-in-MapS t c =
     let same : c.from_residual-in_err-of-in-MapS.result ≡ Err c.in_err-of-in-MapS.field-0.0 = search rules in
     rw same
-    (set_step.SetMapS_fault0 (plain_of c.args.schema.now) c.args.vars.now c.args.content c.in-MapS.field-0 c.in-MapS.field-1 c.in-MapS.field-2 c.in-MapS.field-3 c.args.set.now c.in_err-of-in-MapS.field-0.0 c.in-MapS.is (λ ne. cc (c.in_err-of-in-MapS.ensures ne)))
+    (set_step.SetMapS_fault0 (plain_of c.args.schema.now) c.args.vars.now c.args.content c.in-MapS.field-1 c.in-MapS.field-2 c.in-MapS.field-3 c.in-MapS.field-0 c.args.set.now c.in_err-of-in-MapS.field-0.0 c.in-MapS.is (λ ne. cc (c.in_err-of-in-MapS.ensures ne)))
 
 pub typed_set-returns-in_ok-of-in-MapS : goal.typed_set-returns-in_ok-of-in-MapS
 typed_set-returns-in_ok-of-in-MapS t c =
-    set_step.SetMapS_last (plain_of c.args.schema.now) c.args.vars.now c.args.content c.in-MapS.field-0 c.in-MapS.field-1 c.in-MapS.field-2 c.in-MapS.field-3 c.args.set.now c.in_ok-of-in-MapS.of c.chain-in-MapS.result c.in-MapS.is (cc c.in_ok-of-in-MapS.ensures) c.chain-in-MapS.ensures
+    set_step.SetMapS_last (plain_of c.args.schema.now) c.args.vars.now c.args.content c.in-MapS.field-1 c.in-MapS.field-2 c.in-MapS.field-3 c.in-MapS.field-0 c.args.set.now c.in_ok-of-in-MapS.of c.chain-in-MapS.result c.in-MapS.is (cc c.in_ok-of-in-MapS.ensures) c.chain-in-MapS.ensures
 
 pub typed_set-returns-in_err-over-in-FlatS : goal.typed_set-returns-in_err-over-in-FlatS
 typed_set-returns-in_err-over-in-FlatS t c =
     let same : c.from_residual-in_err-over-in-FlatS.result ≡ Err c.in_err-over-in-FlatS.field-0.0 = search rules in
     rw same
-    (set_step.SetFlatS_fault0 (plain_of c.args.schema.now) c.args.vars.now c.args.content c.in-FlatS.of c.in-FlatS.x c.in-FlatS.each c.in-FlatS.field-3 c.args.set.now c.in_err-over-in-FlatS.field-0.0 c.in-FlatS.is (λ ne. cc (c.in_err-over-in-FlatS.ensures ne)))
+    (set_step.SetFlatS_fault0 (plain_of c.args.schema.now) c.args.vars.now c.args.content c.in-FlatS.of c.in-FlatS.x c.in-FlatS.each c.in-FlatS.field-0 c.args.set.now c.in_err-over-in-FlatS.field-0.0 c.in-FlatS.is (λ ne. cc (c.in_err-over-in-FlatS.ensures ne)))
 
 pub typed_set-returns-in_err-inner-in-FlatS : goal.typed_set-returns-in_err-inner-in-FlatS
 typed_set-returns-in_err-inner-in-FlatS t c =
     let same : c.from_residual-in_err-inner-in-FlatS.result ≡ Err c.in_err-inner-in-FlatS.field-0.0 = search rules in
     rw same
-    (set_step.SetFlatS_fault1 (plain_of c.args.schema.now) c.args.vars.now c.args.content c.in-FlatS.of c.in-FlatS.x c.in-FlatS.each c.in-FlatS.field-3 c.args.set.now c.in_ok-over-in-FlatS.over c.in_err-inner-in-FlatS.field-0.0 c.in-FlatS.is (cc c.in_ok-over-in-FlatS.ensures) (λ ne. cc (c.in_err-inner-in-FlatS.ensures ne)))
+    (set_step.SetFlatS_fault1 (plain_of c.args.schema.now) c.args.vars.now c.args.content c.in-FlatS.of c.get-x.result.now c.in-FlatS.each c.in-FlatS.field-0 c.args.set.now c.in_ok-over-in-FlatS.over c.in_err-inner-in-FlatS.field-0.0 (c.in-FlatS.is ∙ ap (λ z. se.FlatS c.in-FlatS.field-0 c.in-FlatS.of z c.in-FlatS.each) (sym c.get-x.ensures)) (cc c.in_ok-over-in-FlatS.ensures) (λ ne. cc (c.in_err-inner-in-FlatS.ensures ne)))
 
 pub typed_set-returns-in_err-each-in-FlatS : goal.typed_set-returns-in_err-each-in-FlatS
 typed_set-returns-in_err-each-in-FlatS t c =
     let same : c.from_residual-in_err-each-in-FlatS.result ≡ Err c.in_err-each-in-FlatS.field-0.0 = search rules in
     rw same
-    (set_step.SetFlatS_fault2 (plain_of c.args.schema.now) c.args.vars.now c.args.content c.in-FlatS.of c.in-FlatS.x c.in-FlatS.each c.in-FlatS.field-3 c.args.set.now c.in_ok-over-in-FlatS.over c.in_ok-inner-in-FlatS.inner c.in_err-each-in-FlatS.field-0.0 c.in-FlatS.is (cc c.in_ok-over-in-FlatS.ensures) (cc c.in_ok-inner-in-FlatS.ensures) (λ ne. cc (c.in_err-each-in-FlatS.ensures ne)))
+    (set_step.SetFlatS_fault2 (plain_of c.args.schema.now) c.args.vars.now c.args.content c.in-FlatS.of c.get-x.result.now c.in-FlatS.each c.in-FlatS.field-0 c.args.set.now c.in_ok-over-in-FlatS.over c.in_ok-inner-in-FlatS.inner c.in_err-each-in-FlatS.field-0.0 (c.in-FlatS.is ∙ ap (λ z. se.FlatS c.in-FlatS.field-0 c.in-FlatS.of z c.in-FlatS.each) (sym c.get-x.ensures)) (cc c.in_ok-over-in-FlatS.ensures) (cc c.in_ok-inner-in-FlatS.ensures) (λ ne. cc (c.in_err-each-in-FlatS.ensures ne)))
 
 pub typed_set-returns-in_ok-each-in-FlatS : goal.typed_set-returns-in_ok-each-in-FlatS
 typed_set-returns-in_ok-each-in-FlatS t c =
-    set_step.SetFlatS_last (plain_of c.args.schema.now) c.args.vars.now c.args.content c.in-FlatS.of c.in-FlatS.x c.in-FlatS.each c.in-FlatS.field-3 c.args.set.now c.in_ok-over-in-FlatS.over c.in_ok-inner-in-FlatS.inner c.in_ok-each-in-FlatS.each c.flat_mapped.result c.in-FlatS.is (cc c.in_ok-over-in-FlatS.ensures) (cc c.in_ok-inner-in-FlatS.ensures) (cc c.in_ok-each-in-FlatS.ensures) c.flat_mapped.ensures
+    set_step.SetFlatS_last (plain_of c.args.schema.now) c.args.vars.now c.args.content c.in-FlatS.of c.get-x.result.now c.in-FlatS.each c.in-FlatS.field-0 c.args.set.now c.in_ok-over-in-FlatS.over c.in_ok-inner-in-FlatS.inner c.in_ok-each-in-FlatS.each c.flat_mapped.result (c.in-FlatS.is ∙ ap (λ z. se.FlatS c.in-FlatS.field-0 c.in-FlatS.of z c.in-FlatS.each) (sym c.get-x.ensures)) (cc c.in_ok-over-in-FlatS.ensures) (cc c.in_ok-inner-in-FlatS.ensures) (cc c.in_ok-each-in-FlatS.ensures) c.flat_mapped.ensures
 
 pub typed_set-returns-in_err-test-in-IfS : goal.typed_set-returns-in_err-test-in-IfS
 typed_set-returns-in_err-test-in-IfS t c =
     let same : c.from_residual-in_err-test-in-IfS.result ≡ Err c.in_err-test-in-IfS.field-0.0 = search rules in
     rw same
-    (set_step.SetIfS_fault0 (plain_of c.args.schema.now) c.args.vars.now c.args.content c.in-IfS.c c.in-IfS.a c.in-IfS.b c.in-IfS.field-3 c.args.set.now c.in_err-test-in-IfS.field-0.0 c.in-IfS.is (λ ne. cc (c.in_err-test-in-IfS.ensures ne)))
+    (set_step.SetIfS_fault0 (plain_of c.args.schema.now) c.args.vars.now c.args.content c.in-IfS.c c.in-IfS.a c.in-IfS.b c.in-IfS.field-0 c.args.set.now c.in_err-test-in-IfS.field-0.0 c.in-IfS.is (λ ne. cc (c.in_err-test-in-IfS.ensures ne)))
 
 pub typed_set-returns-in_err-one-in-IfS : goal.typed_set-returns-in_err-one-in-IfS
 typed_set-returns-in_err-one-in-IfS t c =
     let same : c.from_residual-in_err-one-in-IfS.result ≡ Err c.in_err-one-in-IfS.field-0.0 = search rules in
     rw same
-    (set_step.SetIfS_fault1 (plain_of c.args.schema.now) c.args.vars.now c.args.content c.in-IfS.c c.in-IfS.a c.in-IfS.b c.in-IfS.field-3 c.args.set.now c.in_ok-test-in-IfS.test c.in_err-one-in-IfS.field-0.0 c.in-IfS.is (cc c.in_ok-test-in-IfS.ensures) (λ ne. cc (c.in_err-one-in-IfS.ensures ne)))
+    (set_step.SetIfS_fault1 (plain_of c.args.schema.now) c.args.vars.now c.args.content c.in-IfS.c c.in-IfS.a c.in-IfS.b c.in-IfS.field-0 c.args.set.now c.in_ok-test-in-IfS.test c.in_err-one-in-IfS.field-0.0 c.in-IfS.is (cc c.in_ok-test-in-IfS.ensures) (λ ne. cc (c.in_err-one-in-IfS.ensures ne)))
 
 pub typed_set-returns-in_err-other-in-IfS : goal.typed_set-returns-in_err-other-in-IfS
 typed_set-returns-in_err-other-in-IfS t c =
     let same : c.from_residual-in_err-other-in-IfS.result ≡ Err c.in_err-other-in-IfS.field-0.0 = search rules in
     rw same
-    (set_step.SetIfS_fault2 (plain_of c.args.schema.now) c.args.vars.now c.args.content c.in-IfS.c c.in-IfS.a c.in-IfS.b c.in-IfS.field-3 c.args.set.now c.in_ok-test-in-IfS.test c.in_ok-one-in-IfS.one c.in_err-other-in-IfS.field-0.0 c.in-IfS.is (cc c.in_ok-test-in-IfS.ensures) (cc c.in_ok-one-in-IfS.ensures) (λ ne. cc (c.in_err-other-in-IfS.ensures ne)))
+    (set_step.SetIfS_fault2 (plain_of c.args.schema.now) c.args.vars.now c.args.content c.in-IfS.c c.in-IfS.a c.in-IfS.b c.in-IfS.field-0 c.args.set.now c.in_ok-test-in-IfS.test c.in_ok-one-in-IfS.one c.in_err-other-in-IfS.field-0.0 c.in-IfS.is (cc c.in_ok-test-in-IfS.ensures) (cc c.in_ok-one-in-IfS.ensures) (λ ne. cc (c.in_err-other-in-IfS.ensures ne)))
 
 pub typed_set-returns-in_ok-other-in-IfS : goal.typed_set-returns-in_ok-other-in-IfS
 typed_set-returns-in_ok-other-in-IfS t c =
-    set_step.SetIfS_last (plain_of c.args.schema.now) c.args.vars.now c.args.content c.in-IfS.c c.in-IfS.a c.in-IfS.b c.in-IfS.field-3 c.args.set.now c.in_ok-test-in-IfS.test c.in_ok-one-in-IfS.one c.in_ok-other-in-IfS.other c.choice_of_sets.result c.in-IfS.is (cc c.in_ok-test-in-IfS.ensures) (cc c.in_ok-one-in-IfS.ensures) (cc c.in_ok-other-in-IfS.ensures) c.choice_of_sets.ensures
+    set_step.SetIfS_last (plain_of c.args.schema.now) c.args.vars.now c.args.content c.in-IfS.c c.in-IfS.a c.in-IfS.b c.in-IfS.field-0 c.args.set.now c.in_ok-test-in-IfS.test c.in_ok-one-in-IfS.one c.in_ok-other-in-IfS.other c.choice_of_sets.result c.in-IfS.is (cc c.in_ok-test-in-IfS.ensures) (cc c.in_ok-one-in-IfS.ensures) (cc c.in_ok-other-in-IfS.ensures) c.choice_of_sets.ensures
 
 pub typed_set-returns-in_err-of-in-MatchS : goal.typed_set-returns-in_err-of-in-MatchS
 typed_set-returns-in_err-of-in-MatchS t c =
     let same : c.from_residual-in_err-of-in-MatchS.result ≡ Err c.in_err-of-in-MatchS.field-0.0 = search rules in
     rw same
-    (set_step.SetMatchS_fault0 (plain_of c.args.schema.now) c.args.vars.now c.args.content c.in-MatchS.e c.in-MatchS.a c.in-MatchS.x c.in-MatchS.b c.in-MatchS.field-4 c.args.set.now c.in_err-of-in-MatchS.field-0.0 c.in-MatchS.is (λ ne. cc (c.in_err-of-in-MatchS.ensures ne)))
+    (set_step.SetMatchS_fault0 (plain_of c.args.schema.now) c.args.vars.now c.args.content c.in-MatchS.e c.in-MatchS.a c.get-x-in-MatchS.result.now c.in-MatchS.b c.in-MatchS.field-0 c.args.set.now c.in_err-of-in-MatchS.field-0.0 (c.in-MatchS.is ∙ ap (λ z. se.MatchS c.in-MatchS.field-0 c.in-MatchS.e c.in-MatchS.a z c.in-MatchS.b) (sym c.get-x-in-MatchS.ensures)) (λ ne. cc (c.in_err-of-in-MatchS.ensures ne)))
 
 pub typed_set-returns-in_err-inside-in-MatchS : goal.typed_set-returns-in_err-inside-in-MatchS
 typed_set-returns-in_err-inside-in-MatchS t c =
     let same : c.from_residual-in_err-inside-in-MatchS.result ≡ Err c.in_err-inside-in-MatchS.field-0.0 = search rules in
     rw same
-    (set_step.SetMatchS_fault1 (plain_of c.args.schema.now) c.args.vars.now c.args.content c.in-MatchS.e c.in-MatchS.a c.in-MatchS.x c.in-MatchS.b c.in-MatchS.field-4 c.args.set.now c.in_ok-of-in-MatchS.of c.in_err-inside-in-MatchS.field-0.0 c.in-MatchS.is (cc c.in_ok-of-in-MatchS.ensures) (λ ne. cc c.in_err-inside-in-MatchS.ensures))
+    (set_step.SetMatchS_fault1 (plain_of c.args.schema.now) c.args.vars.now c.args.content c.in-MatchS.e c.in-MatchS.a c.get-x-in-MatchS.result.now c.in-MatchS.b c.in-MatchS.field-0 c.args.set.now c.in_ok-of-in-MatchS.of c.in_err-inside-in-MatchS.field-0.0 (c.in-MatchS.is ∙ ap (λ z. se.MatchS c.in-MatchS.field-0 c.in-MatchS.e c.in-MatchS.a z c.in-MatchS.b) (sym c.get-x-in-MatchS.ensures)) (cc c.in_ok-of-in-MatchS.ensures) (λ ne. cc c.in_err-inside-in-MatchS.ensures))
 
 pub typed_set-returns-in_err-none-in-MatchS : goal.typed_set-returns-in_err-none-in-MatchS
 typed_set-returns-in_err-none-in-MatchS t c =
     let same : c.from_residual-in_err-none-in-MatchS.result ≡ Err c.in_err-none-in-MatchS.field-0.0 = search rules in
     rw same
-    (set_step.SetMatchS_fault2 (plain_of c.args.schema.now) c.args.vars.now c.args.content c.in-MatchS.e c.in-MatchS.a c.in-MatchS.x c.in-MatchS.b c.in-MatchS.field-4 c.args.set.now c.in_ok-of-in-MatchS.of c.in_ok-inside-in-MatchS.inside c.in_err-none-in-MatchS.field-0.0 c.in-MatchS.is (cc c.in_ok-of-in-MatchS.ensures) (cc c.in_ok-inside-in-MatchS.ensures) (λ ne. cc (c.in_err-none-in-MatchS.ensures ne)))
+    (set_step.SetMatchS_fault2 (plain_of c.args.schema.now) c.args.vars.now c.args.content c.in-MatchS.e c.in-MatchS.a c.get-x-in-MatchS.result.now c.in-MatchS.b c.in-MatchS.field-0 c.args.set.now c.in_ok-of-in-MatchS.of c.in_ok-inside-in-MatchS.inside c.in_err-none-in-MatchS.field-0.0 (c.in-MatchS.is ∙ ap (λ z. se.MatchS c.in-MatchS.field-0 c.in-MatchS.e c.in-MatchS.a z c.in-MatchS.b) (sym c.get-x-in-MatchS.ensures)) (cc c.in_ok-of-in-MatchS.ensures) (cc c.in_ok-inside-in-MatchS.ensures) (λ ne. cc (c.in_err-none-in-MatchS.ensures ne)))
 
 pub typed_set-returns-in_err-inner-in-MatchS : goal.typed_set-returns-in_err-inner-in-MatchS
 typed_set-returns-in_err-inner-in-MatchS t c =
     let same : c.from_residual-in_err-inner-in-MatchS.result ≡ Err c.in_err-inner-in-MatchS.field-0.0 = search rules in
     rw same
-    (set_step.SetMatchS_fault3 (plain_of c.args.schema.now) c.args.vars.now c.args.content c.in-MatchS.e c.in-MatchS.a c.in-MatchS.x c.in-MatchS.b c.in-MatchS.field-4 c.args.set.now c.in_ok-of-in-MatchS.of c.in_ok-inside-in-MatchS.inside c.in_ok-none-in-MatchS.none c.in_err-inner-in-MatchS.field-0.0 c.in-MatchS.is (cc c.in_ok-of-in-MatchS.ensures) (cc c.in_ok-inside-in-MatchS.ensures) (cc c.in_ok-none-in-MatchS.ensures) (λ ne. cc (c.in_err-inner-in-MatchS.ensures ne)))
+    (set_step.SetMatchS_fault3 (plain_of c.args.schema.now) c.args.vars.now c.args.content c.in-MatchS.e c.in-MatchS.a c.get-x-in-MatchS.result.now c.in-MatchS.b c.in-MatchS.field-0 c.args.set.now c.in_ok-of-in-MatchS.of c.in_ok-inside-in-MatchS.inside c.in_ok-none-in-MatchS.none c.in_err-inner-in-MatchS.field-0.0 (c.in-MatchS.is ∙ ap (λ z. se.MatchS c.in-MatchS.field-0 c.in-MatchS.e c.in-MatchS.a z c.in-MatchS.b) (sym c.get-x-in-MatchS.ensures)) (cc c.in_ok-of-in-MatchS.ensures) (cc c.in_ok-inside-in-MatchS.ensures) (cc c.in_ok-none-in-MatchS.ensures) (λ ne. cc (c.in_err-inner-in-MatchS.ensures ne)))
 
 pub typed_set-returns-in_err-some-in-MatchS : goal.typed_set-returns-in_err-some-in-MatchS
 typed_set-returns-in_err-some-in-MatchS t c =
     let same : c.from_residual-in_err-some-in-MatchS.result ≡ Err c.in_err-some-in-MatchS.field-0.0 = search rules in
     rw same
-    (set_step.SetMatchS_fault4 (plain_of c.args.schema.now) c.args.vars.now c.args.content c.in-MatchS.e c.in-MatchS.a c.in-MatchS.x c.in-MatchS.b c.in-MatchS.field-4 c.args.set.now c.in_ok-of-in-MatchS.of c.in_ok-inside-in-MatchS.inside c.in_ok-none-in-MatchS.none c.in_ok-inner-in-MatchS.inner c.in_err-some-in-MatchS.field-0.0 c.in-MatchS.is (cc c.in_ok-of-in-MatchS.ensures) (cc c.in_ok-inside-in-MatchS.ensures) (cc c.in_ok-none-in-MatchS.ensures) (cc c.in_ok-inner-in-MatchS.ensures) (λ ne. cc (c.in_err-some-in-MatchS.ensures ne)))
+    (set_step.SetMatchS_fault4 (plain_of c.args.schema.now) c.args.vars.now c.args.content c.in-MatchS.e c.in-MatchS.a c.get-x-in-MatchS.result.now c.in-MatchS.b c.in-MatchS.field-0 c.args.set.now c.in_ok-of-in-MatchS.of c.in_ok-inside-in-MatchS.inside c.in_ok-none-in-MatchS.none c.in_ok-inner-in-MatchS.inner c.in_err-some-in-MatchS.field-0.0 (c.in-MatchS.is ∙ ap (λ z. se.MatchS c.in-MatchS.field-0 c.in-MatchS.e c.in-MatchS.a z c.in-MatchS.b) (sym c.get-x-in-MatchS.ensures)) (cc c.in_ok-of-in-MatchS.ensures) (cc c.in_ok-inside-in-MatchS.ensures) (cc c.in_ok-none-in-MatchS.ensures) (cc c.in_ok-inner-in-MatchS.ensures) (λ ne. cc (c.in_err-some-in-MatchS.ensures ne)))
 
 pub typed_set-returns-in_ok-some-in-MatchS : goal.typed_set-returns-in_ok-some-in-MatchS
 typed_set-returns-in_ok-some-in-MatchS t c =
-    set_step.SetMatchS_last (plain_of c.args.schema.now) c.args.vars.now c.args.content c.in-MatchS.e c.in-MatchS.a c.in-MatchS.x c.in-MatchS.b c.in-MatchS.field-4 c.args.set.now c.in_ok-of-in-MatchS.of c.in_ok-inside-in-MatchS.inside c.in_ok-none-in-MatchS.none c.in_ok-inner-in-MatchS.inner c.in_ok-some-in-MatchS.some c.set_cases.result c.in-MatchS.is (cc c.in_ok-of-in-MatchS.ensures) (cc c.in_ok-inside-in-MatchS.ensures) (cc c.in_ok-none-in-MatchS.ensures) (cc c.in_ok-inner-in-MatchS.ensures) (cc c.in_ok-some-in-MatchS.ensures) c.set_cases.ensures
+    set_step.SetMatchS_last (plain_of c.args.schema.now) c.args.vars.now c.args.content c.in-MatchS.e c.in-MatchS.a c.get-x-in-MatchS.result.now c.in-MatchS.b c.in-MatchS.field-0 c.args.set.now c.in_ok-of-in-MatchS.of c.in_ok-inside-in-MatchS.inside c.in_ok-none-in-MatchS.none c.in_ok-inner-in-MatchS.inner c.in_ok-some-in-MatchS.some c.set_cases.result (c.in-MatchS.is ∙ ap (λ z. se.MatchS c.in-MatchS.field-0 c.in-MatchS.e c.in-MatchS.a z c.in-MatchS.b) (sym c.get-x-in-MatchS.ensures)) (cc c.in_ok-of-in-MatchS.ensures) (cc c.in_ok-inside-in-MatchS.ensures) (cc c.in_ok-none-in-MatchS.ensures) (cc c.in_ok-inner-in-MatchS.ensures) (cc c.in_ok-some-in-MatchS.ensures) c.set_cases.ensures
 
 pub typed_source-returns-in_err-number-in-Find : goal.typed_source-returns-in_err-number-in-Find
 typed_source-returns-in_err-number-in-Find t c =
     let same : c.from_residual.result ≡ Err c.in_err-number-in-Find.field-0.0 = search rules in
     rw same
-    (set_step.SourceFind_fault0 (plain_of c.args.schema.now) c.args.vars.now c.in-Find.model c.in-Find.filters c.in-Find.field-2 c.args.set.now c.in_err-number-in-Find.field-0.0 c.in-Find.is (λ ne. cc c.in_err-number-in-Find.ensures))
+    (set_step.SourceFind_fault0 (plain_of c.args.schema.now) c.args.vars.now c.get-model.result.now c.in-Find.filters c.in-Find.field-0 c.args.set.now c.in_err-number-in-Find.field-0.0 (c.in-Find.is ∙ ap (λ z. se.Find c.in-Find.field-0 z c.in-Find.filters) (sym c.get-model.ensures)) (λ ne. cc c.in_err-number-in-Find.ensures))
 
 pub typed_source-returns-in_err-filters-in-Find : goal.typed_source-returns-in_err-filters-in-Find
 typed_source-returns-in_err-filters-in-Find t c =
     let same : c.from_residual-in_err-filters-in-Find.result ≡ Err c.in_err-filters-in-Find.field-0.0 = search rules in
     rw same
-    (set_step.SourceFind_fault1 (plain_of c.args.schema.now) c.args.vars.now c.in-Find.model c.in-Find.filters c.in-Find.field-2 c.args.set.now c.in_ok-number-in-Find.number c.in_err-filters-in-Find.field-0.0 c.in-Find.is (cc c.in_ok-number-in-Find.ensures) (λ ne. cc (c.in_err-filters-in-Find.ensures ne)))
+    (set_step.SourceFind_fault1 (plain_of c.args.schema.now) c.args.vars.now c.get-model.result.now c.in-Find.filters c.in-Find.field-0 c.args.set.now c.in_ok-number-in-Find.number c.in_err-filters-in-Find.field-0.0 (c.in-Find.is ∙ ap (λ z. se.Find c.in-Find.field-0 z c.in-Find.filters) (sym c.get-model.ensures)) (cc c.in_ok-number-in-Find.ensures) (λ ne. cc (c.in_err-filters-in-Find.ensures ne)))
 
 pub typed_source-returns-in_ok-filters-in-Find : goal.typed_source-returns-in_ok-filters-in-Find
 typed_source-returns-in_ok-filters-in-Find t c =
-    set_step.SourceFind_last (plain_of c.args.schema.now) c.args.vars.now c.in-Find.model c.in-Find.filters c.in-Find.field-2 c.args.set.now c.in_ok-number-in-Find.number c.in_ok-filters-in-Find.filters c.found.result c.in-Find.is (cc c.in_ok-number-in-Find.ensures) (cc c.in_ok-filters-in-Find.ensures) c.found.ensures
+    set_step.SourceFind_last (plain_of c.args.schema.now) c.args.vars.now c.get-model.result.now c.in-Find.filters c.in-Find.field-0 c.args.set.now c.in_ok-number-in-Find.number c.in_ok-filters-in-Find.filters c.found.result (c.in-Find.is ∙ ap (λ z. se.Find c.in-Find.field-0 z c.in-Find.filters) (sym c.get-model.ensures)) (cc c.in_ok-number-in-Find.ensures) (cc c.in_ok-filters-in-Find.ensures) c.found.ensures
 
 pub typed_source-returns-in_err-of-in-Path : goal.typed_source-returns-in_err-of-in-Path
 typed_source-returns-in_err-of-in-Path t c =
     let same : c.from_residual-in_err-of-in-Path.result ≡ Err c.in_err-of-in-Path.field-0.0 = search rules in
     rw same
-    (set_step.SourcePath_fault0 (plain_of c.args.schema.now) c.args.vars.now c.in-Path.e c.in-Path.field-1 c.args.set.now c.in_err-of-in-Path.field-0.0 c.in-Path.is (λ ne. cc (c.in_err-of-in-Path.ensures ne)))
+    (set_step.SourcePath_fault0 (plain_of c.args.schema.now) c.args.vars.now c.in-Path.e c.in-Path.field-0 c.args.set.now c.in_err-of-in-Path.field-0.0 c.in-Path.is (λ ne. cc (c.in_err-of-in-Path.ensures ne)))
 
 pub typed_source-returns-in_ok-of-in-Path : goal.typed_source-returns-in_ok-of-in-Path
 typed_source-returns-in_ok-of-in-Path t c =
-    set_step.SourcePath_last (plain_of c.args.schema.now) c.args.vars.now c.in-Path.e c.in-Path.field-1 c.args.set.now c.in_ok-of-in-Path.of c.path.result c.in-Path.is (cc c.in_ok-of-in-Path.ensures) c.path.ensures
+    set_step.SourcePath_last (plain_of c.args.schema.now) c.args.vars.now c.in-Path.e c.in-Path.field-0 c.args.set.now c.in_ok-of-in-Path.of c.path.result c.in-Path.is (cc c.in_ok-of-in-Path.ensures) c.path.ensures
 
 pub typed_source-returns-in_err-over-in-MapS : goal.typed_source-returns-in_err-over-in-MapS
 typed_source-returns-in_err-over-in-MapS t c =
     let same : c.from_residual-in_err-over-in-MapS.result ≡ Err c.in_err-over-in-MapS.field-0.0 = search rules in
     rw same
-    (set_step.SourceMapS_fault0 (plain_of c.args.schema.now) c.args.vars.now c.in-MapS.of c.in-MapS.x c.in-MapS.e c.in-MapS.field-3 c.args.set.now c.in_err-over-in-MapS.field-0.0 c.in-MapS.is (λ ne. cc (c.in_err-over-in-MapS.ensures ne)))
+    (set_step.SourceMapS_fault0 (plain_of c.args.schema.now) c.args.vars.now c.in-MapS.of c.in-MapS.x c.in-MapS.e c.in-MapS.field-0 c.args.set.now c.in_err-over-in-MapS.field-0.0 c.in-MapS.is (λ ne. cc (c.in_err-over-in-MapS.ensures ne)))
 
 pub typed_source-returns-in_err-inner-in-MapS : goal.typed_source-returns-in_err-inner-in-MapS
 typed_source-returns-in_err-inner-in-MapS t c =
     let same : c.from_residual-in_err-inner-in-MapS.result ≡ Err c.in_err-inner-in-MapS.field-0.0 = search rules in
     rw same
-    (set_step.SourceMapS_fault1 (plain_of c.args.schema.now) c.args.vars.now c.in-MapS.of c.in-MapS.x c.in-MapS.e c.in-MapS.field-3 c.args.set.now c.in_ok-over-in-MapS.over c.in_err-inner-in-MapS.field-0.0 c.in-MapS.is (cc c.in_ok-over-in-MapS.ensures) (λ ne. cc (c.in_err-inner-in-MapS.ensures ne)))
+    (set_step.SourceMapS_fault1 (plain_of c.args.schema.now) c.args.vars.now c.in-MapS.of c.get-x.result.now c.in-MapS.e c.in-MapS.field-0 c.args.set.now c.in_ok-over-in-MapS.over c.in_err-inner-in-MapS.field-0.0 (c.in-MapS.is ∙ ap (λ z. se.MapS c.in-MapS.field-0 c.in-MapS.of z c.in-MapS.e) (sym c.get-x.ensures)) (cc c.in_ok-over-in-MapS.ensures) (λ ne. cc (c.in_err-inner-in-MapS.ensures ne)))
 
 pub typed_source-returns-in_err-each-in-MapS : goal.typed_source-returns-in_err-each-in-MapS
 typed_source-returns-in_err-each-in-MapS t c =
     let same : c.from_residual-in_err-each-in-MapS.result ≡ Err c.in_err-each-in-MapS.field-0.0 = search rules in
     rw same
-    (set_step.SourceMapS_fault2 (plain_of c.args.schema.now) c.args.vars.now c.in-MapS.of c.in-MapS.x c.in-MapS.e c.in-MapS.field-3 c.args.set.now c.in_ok-over-in-MapS.over c.in_ok-inner-in-MapS.inner c.in_err-each-in-MapS.field-0.0 c.in-MapS.is (cc c.in_ok-over-in-MapS.ensures) (cc c.in_ok-inner-in-MapS.ensures) (λ ne. cc (c.in_err-each-in-MapS.ensures ne)))
+    (set_step.SourceMapS_fault2 (plain_of c.args.schema.now) c.args.vars.now c.in-MapS.of c.get-x.result.now c.in-MapS.e c.in-MapS.field-0 c.args.set.now c.in_ok-over-in-MapS.over c.in_ok-inner-in-MapS.inner c.in_err-each-in-MapS.field-0.0 (c.in-MapS.is ∙ ap (λ z. se.MapS c.in-MapS.field-0 c.in-MapS.of z c.in-MapS.e) (sym c.get-x.ensures)) (cc c.in_ok-over-in-MapS.ensures) (cc c.in_ok-inner-in-MapS.ensures) (λ ne. cc (c.in_err-each-in-MapS.ensures ne)))
 
 pub typed_source-returns-in_ok-each-in-MapS : goal.typed_source-returns-in_ok-each-in-MapS
 typed_source-returns-in_ok-each-in-MapS t c =
-    set_step.SourceMapS_last (plain_of c.args.schema.now) c.args.vars.now c.in-MapS.of c.in-MapS.x c.in-MapS.e c.in-MapS.field-3 c.args.set.now c.in_ok-over-in-MapS.over c.in_ok-inner-in-MapS.inner c.in_ok-each-in-MapS.each c.mapped.result c.in-MapS.is (cc c.in_ok-over-in-MapS.ensures) (cc c.in_ok-inner-in-MapS.ensures) (cc c.in_ok-each-in-MapS.ensures) c.mapped.ensures
+    set_step.SourceMapS_last (plain_of c.args.schema.now) c.args.vars.now c.in-MapS.of c.get-x.result.now c.in-MapS.e c.in-MapS.field-0 c.args.set.now c.in_ok-over-in-MapS.over c.in_ok-inner-in-MapS.inner c.in_ok-each-in-MapS.each c.mapped.result (c.in-MapS.is ∙ ap (λ z. se.MapS c.in-MapS.field-0 c.in-MapS.of z c.in-MapS.e) (sym c.get-x.ensures)) (cc c.in_ok-over-in-MapS.ensures) (cc c.in_ok-inner-in-MapS.ensures) (cc c.in_ok-each-in-MapS.ensures) c.mapped.ensures
 
 pub typed_source-returns-in-Everyone : goal.typed_source-returns-in-Everyone
 typed_source-returns-in-Everyone t c =
-    λ ne. ap (λ z. typed_source (plain_of c.args.schema.now) c.args.vars.now z) c.in-Everyone.is ∙ form.Everyone_no_source (plain_of c.args.schema.now) c.args.vars.now c.in-Everyone.field-0 c.in-Everyone.at
+    λ ne. ap (λ z. typed_source (plain_of c.args.schema.now) c.args.vars.now z) c.in-Everyone.is ∙ form.Everyone_no_source (plain_of c.args.schema.now) c.args.vars.now c.in-Everyone.field-1 c.in-Everyone.at
 
 pub typed_source-returns-in-Nobody : goal.typed_source-returns-in-Nobody
 typed_source-returns-in-Nobody t c =
@@ -419,27 +420,27 @@ typed_source-returns-in-Nobody t c =
 
 pub typed_source-returns-in-List : goal.typed_source-returns-in-List
 typed_source-returns-in-List t c =
-    λ ne. ap (λ z. typed_source (plain_of c.args.schema.now) c.args.vars.now z) c.in-List.is ∙ form.List_no_source (plain_of c.args.schema.now) c.args.vars.now c.in-List.field-0 c.in-List.at
+    λ ne. ap (λ z. typed_source (plain_of c.args.schema.now) c.args.vars.now z) c.in-List.is ∙ form.List_no_source (plain_of c.args.schema.now) c.args.vars.now c.in-List.field-1 c.in-List.at
 
 pub typed_source-returns-in-Sum : goal.typed_source-returns-in-Sum
 typed_source-returns-in-Sum t c =
-    λ ne. ap (λ z. typed_source (plain_of c.args.schema.now) c.args.vars.now z) c.in-Sum.is ∙ form.Sum_no_source (plain_of c.args.schema.now) c.args.vars.now c.in-Sum.field-0 c.in-Sum.field-1 c.in-Sum.at
+    λ ne. ap (λ z. typed_source (plain_of c.args.schema.now) c.args.vars.now z) c.in-Sum.is ∙ form.Sum_no_source (plain_of c.args.schema.now) c.args.vars.now c.in-Sum.field-1 c.in-Sum.field-2 c.in-Sum.at
 
 pub typed_source-returns-in-Less : goal.typed_source-returns-in-Less
 typed_source-returns-in-Less t c =
-    λ ne. ap (λ z. typed_source (plain_of c.args.schema.now) c.args.vars.now z) c.in-Less.is ∙ form.Less_no_source (plain_of c.args.schema.now) c.args.vars.now c.in-Less.field-0 c.in-Less.field-1 c.in-Less.at
+    λ ne. ap (λ z. typed_source (plain_of c.args.schema.now) c.args.vars.now z) c.in-Less.is ∙ form.Less_no_source (plain_of c.args.schema.now) c.args.vars.now c.in-Less.field-1 c.in-Less.field-2 c.in-Less.at
 
 pub typed_source-returns-in-FlatS : goal.typed_source-returns-in-FlatS
 typed_source-returns-in-FlatS t c =
-    λ ne. ap (λ z. typed_source (plain_of c.args.schema.now) c.args.vars.now z) c.in-FlatS.is ∙ form.FlatS_no_source (plain_of c.args.schema.now) c.args.vars.now c.in-FlatS.field-0 c.in-FlatS.field-1 c.in-FlatS.field-2 c.in-FlatS.at
+    λ ne. ap (λ z. typed_source (plain_of c.args.schema.now) c.args.vars.now z) c.in-FlatS.is ∙ form.FlatS_no_source (plain_of c.args.schema.now) c.args.vars.now c.in-FlatS.field-1 c.in-FlatS.field-2 c.in-FlatS.field-3 c.in-FlatS.at
 
 pub typed_source-returns-in-IfS : goal.typed_source-returns-in-IfS
 typed_source-returns-in-IfS t c =
-    λ ne. ap (λ z. typed_source (plain_of c.args.schema.now) c.args.vars.now z) c.in-IfS.is ∙ form.IfS_no_source (plain_of c.args.schema.now) c.args.vars.now c.in-IfS.field-0 c.in-IfS.field-1 c.in-IfS.field-2 c.in-IfS.at
+    λ ne. ap (λ z. typed_source (plain_of c.args.schema.now) c.args.vars.now z) c.in-IfS.is ∙ form.IfS_no_source (plain_of c.args.schema.now) c.args.vars.now c.in-IfS.field-1 c.in-IfS.field-2 c.in-IfS.field-3 c.in-IfS.at
 
 pub typed_source-returns-in-MatchS : goal.typed_source-returns-in-MatchS
 typed_source-returns-in-MatchS t c =
-    λ ne. ap (λ z. typed_source (plain_of c.args.schema.now) c.args.vars.now z) c.in-MatchS.is ∙ form.MatchS_no_source (plain_of c.args.schema.now) c.args.vars.now c.in-MatchS.field-0 c.in-MatchS.field-1 c.in-MatchS.field-2 c.in-MatchS.field-3 c.in-MatchS.at
+    λ ne. ap (λ z. typed_source (plain_of c.args.schema.now) c.args.vars.now z) c.in-MatchS.is ∙ form.MatchS_no_source (plain_of c.args.schema.now) c.args.vars.now c.in-MatchS.field-1 c.in-MatchS.field-2 c.in-MatchS.field-3 c.in-MatchS.field-4 c.in-MatchS.at
 
 pub typed_item-returns-in_err-of-in-One : goal.typed_item-returns-in_err-of-in-One
 typed_item-returns-in_err-of-in-One t c =

@@ -8,10 +8,10 @@ use Rattle.sc_print.proofs.Parts.{Filter_text, One_text, Path_text, container_ti
 use Rattle.sc_print.proofs.printer.Printer.+print.Goals as goal
 
 pub expr-returns-in_ok-put-in-SomeLit-2 : goal.expr-returns-in_ok-put-in-SomeLit-2
-expr-returns-in_ok-put-in-SomeLit-2 t c = simp (c.in-SomeLit.is, SomeLit_text, c.get.ensures, c.in_ok-put-in-SomeLit.ensures, c.in_ok-expr-in-SomeLit.ensures, c.in_ok-put-in-SomeLit-2.ensures, append_assoc)
+expr-returns-in_ok-put-in-SomeLit-2 t c = simp (c.in-SomeLit.is, SomeLit_text, c.get-in-SomeLit.ensures, c.in_ok-put-in-SomeLit.ensures, c.in_ok-expr-in-SomeLit.ensures, c.in_ok-put-in-SomeLit-2.ensures, append_assoc)
 
 pub expr-returns-in_ok-put-in-Get-2 : goal.expr-returns-in_ok-put-in-Get-2
-expr-returns-in_ok-put-in-Get-2 t c = simp (c.in-Get.is, Get_text, c.get-in-Get.ensures, c.bytes-in-Get.ensures.bytes, c.in_ok-expr_within-in-Get.ensures, c.in_ok-put-in-Get.ensures, c.in_ok-put-in-Get-2.ensures, append_assoc)
+expr-returns-in_ok-put-in-Get-2 t c = simp (c.in-Get.is, Get_text, c.get-in-Get.ensures, c.get-in-Get-2.ensures, c.bytes-in-Get.ensures.bytes, c.in_ok-expr_within-in-Get.ensures, c.in_ok-put-in-Get.ensures, c.in_ok-put-in-Get-2.ensures, append_assoc)
 
 pub expr-returns-in_ok-expr_within-in-Cmp-2 : goal.expr-returns-in_ok-expr_within-in-Cmp-2
 expr-returns-in_ok-expr_within-in-Cmp-2 t c = simp (c.in-Cmp.is, Cmp_text, c.get-in-Cmp.ensures, c.get-in-Cmp-2.ensures, c.cmp_sign.ensures, c.in_ok-expr_within-in-Cmp.ensures, c.in_ok-put-in-Cmp.ensures, c.in_ok-expr_within-in-Cmp-2.ensures, append_assoc)
@@ -33,7 +33,7 @@ expr-returns-in_ok-expr-in-IfE-3 t c = simp (c.in-IfE.is, IfE_text, c.get-in-IfE
 
 pub expr-returns-in_ok-expr-in-MatchE-3 : goal.expr-returns-in_ok-expr-in-MatchE-3
 expr-returns-in_ok-expr-in-MatchE-3 t c =
-    rw (c.in-MatchE.is, MatchE_text, c.in_ok-expr-in-MatchE-3.ensures, c.in_ok-put-in-MatchE-5.ensures, c.in_ok-put-in-MatchE-4.ensures, c.in_ok-put-in-MatchE-3.ensures, c.in_ok-expr-in-MatchE-2.ensures, c.in_ok-put-in-MatchE-2.ensures, c.in_ok-expr-in-MatchE.ensures, c.in_ok-put-in-MatchE.ensures, c.get-in-MatchE.ensures, c.get-in-MatchE-2.ensures, c.get-in-MatchE-3.ensures, c.bytes-in-MatchE.ensures.bytes) (simp append_assoc)
+    rw (c.in-MatchE.is, MatchE_text, c.in_ok-expr-in-MatchE-3.ensures, c.in_ok-put-in-MatchE-5.ensures, c.in_ok-put-in-MatchE-4.ensures, c.in_ok-put-in-MatchE-3.ensures, c.in_ok-expr-in-MatchE-2.ensures, c.in_ok-put-in-MatchE-2.ensures, c.in_ok-expr-in-MatchE.ensures, c.in_ok-put-in-MatchE.ensures, c.get-in-MatchE-2.ensures, c.get-in-MatchE-3.ensures, c.bytes-in-MatchE.ensures.bytes, c.get-in-MatchE.ensures) (simp append_assoc)
 
 pub set-returns-in_ok-put-in-List-2 : goal.set-returns-in_ok-put-in-List-2
 set-returns-in_ok-put-in-List-2 t c = simp (c.in-List.is, List_text, c.as_slice.ensures, c.in_ok-put-in-List.ensures, c.in_ok-items-in-List.ensures, c.in_ok-put-in-List-2.ensures, append_assoc)
@@ -45,20 +45,20 @@ pub set-returns-in_ok-set_within-in-Less-2 : goal.set-returns-in_ok-set_within-i
 set-returns-in_ok-set_within-in-Less-2 t c = simp (c.in-Less.is, Less_text, c.get-in-Less.ensures, c.get-in-Less-2.ensures, c.in_ok-set_within-in-Less.ensures, c.in_ok-put-in-Less.ensures, c.in_ok-set_within-in-Less-2.ensures, append_assoc)
 
 pub set-returns-in_ok-put-in-Find-3 : goal.set-returns-in_ok-put-in-Find-3
-set-returns-in_ok-put-in-Find-3 t c = simp (c.in-Find.is, Find_text, c.bytes.ensures.bytes, c.as_slice-in-Find.ensures, c.in_ok-put-in-Find.ensures, c.in_ok-put-in-Find-2.ensures, c.in_ok-filters-in-Find.ensures, c.in_ok-put-in-Find-3.ensures, append_assoc)
+set-returns-in_ok-put-in-Find-3 t c = simp (c.in-Find.is, Find_text, c.get-in-Find.ensures, c.bytes.ensures.bytes, c.as_slice-in-Find.ensures, c.in_ok-put-in-Find.ensures, c.in_ok-put-in-Find-2.ensures, c.in_ok-filters-in-Find.ensures, c.in_ok-put-in-Find-3.ensures, append_assoc)
 
 pub set-returns-in_ok-put-in-MapS-4 : goal.set-returns-in_ok-put-in-MapS-4
-set-returns-in_ok-put-in-MapS-4 t c = simp (c.in-MapS.is, MapS_text, c.get-in-MapS.ensures, c.bytes-in-MapS.ensures.bytes, c.in_ok-set-in-MapS.ensures, c.in_ok-put-in-MapS.ensures, c.in_ok-put-in-MapS-2.ensures, c.in_ok-put-in-MapS-3.ensures, c.in_ok-put-in-MapS-4.ensures, c.in_ok-expr-in-MapS.ensures, append_assoc)
+set-returns-in_ok-put-in-MapS-4 t c = simp (c.in-MapS.is, MapS_text, c.get-in-MapS.ensures, c.get-in-MapS-2.ensures, c.get-in-MapS-3.ensures, c.bytes-in-MapS.ensures.bytes, c.in_ok-set-in-MapS.ensures, c.in_ok-put-in-MapS.ensures, c.in_ok-put-in-MapS-2.ensures, c.in_ok-put-in-MapS-3.ensures, c.in_ok-put-in-MapS-4.ensures, c.in_ok-expr-in-MapS.ensures, append_assoc)
 
 pub set-returns-in_ok-put-in-FlatS-4 : goal.set-returns-in_ok-put-in-FlatS-4
-set-returns-in_ok-put-in-FlatS-4 t c = simp (c.in-FlatS.is, FlatS_text, c.get-in-FlatS.ensures, c.get-in-FlatS-2.ensures, c.bytes-in-FlatS.ensures.bytes, c.in_ok-set-in-FlatS.ensures, c.in_ok-put-in-FlatS.ensures, c.in_ok-put-in-FlatS-2.ensures, c.in_ok-put-in-FlatS-3.ensures, c.in_ok-put-in-FlatS-4.ensures, c.in_ok-set-in-FlatS-2.ensures, append_assoc)
+set-returns-in_ok-put-in-FlatS-4 t c = simp (c.in-FlatS.is, FlatS_text, c.get-in-FlatS.ensures, c.get-in-FlatS-2.ensures, c.get-in-FlatS-3.ensures, c.bytes-in-FlatS.ensures.bytes, c.in_ok-set-in-FlatS.ensures, c.in_ok-put-in-FlatS.ensures, c.in_ok-put-in-FlatS-2.ensures, c.in_ok-put-in-FlatS-3.ensures, c.in_ok-put-in-FlatS-4.ensures, c.in_ok-set-in-FlatS-2.ensures, append_assoc)
 
 pub set-returns-in_ok-set-in-IfS-2 : goal.set-returns-in_ok-set-in-IfS-2
-set-returns-in_ok-set-in-IfS-2 t c = simp (c.in-IfS.is, IfS_text, c.get-in-IfS.ensures, c.get-in-IfS-2.ensures, c.in_ok-put-in-IfS.ensures, c.in_ok-put-in-IfS-2.ensures, c.in_ok-put-in-IfS-3.ensures, c.in_ok-expr-in-IfS.ensures, c.in_ok-set-in-IfS.ensures, c.in_ok-set-in-IfS-2.ensures, append_assoc)
+set-returns-in_ok-set-in-IfS-2 t c = simp (c.in-IfS.is, IfS_text, c.get-in-IfS.ensures, c.get-in-IfS-2.ensures, c.get-in-IfS-3.ensures, c.in_ok-put-in-IfS.ensures, c.in_ok-put-in-IfS-2.ensures, c.in_ok-put-in-IfS-3.ensures, c.in_ok-expr-in-IfS.ensures, c.in_ok-set-in-IfS.ensures, c.in_ok-set-in-IfS-2.ensures, append_assoc)
 
 pub set-returns-in_ok-set-in-MatchS-2 : goal.set-returns-in_ok-set-in-MatchS-2
 set-returns-in_ok-set-in-MatchS-2 t c =
-    rw (c.in-MatchS.is, MatchS_text, c.in_ok-set-in-MatchS-2.ensures, c.in_ok-put-in-MatchS-5.ensures, c.in_ok-put-in-MatchS-4.ensures, c.in_ok-put-in-MatchS-3.ensures, c.in_ok-set-in-MatchS.ensures, c.in_ok-put-in-MatchS-2.ensures, c.in_ok-expr-in-MatchS.ensures, c.in_ok-put-in-MatchS.ensures, c.get-in-MatchS.ensures, c.get-in-MatchS-2.ensures, c.bytes-in-MatchS.ensures.bytes) (simp append_assoc)
+    rw (c.in-MatchS.is, MatchS_text, c.in_ok-set-in-MatchS-2.ensures, c.in_ok-put-in-MatchS-5.ensures, c.in_ok-put-in-MatchS-4.ensures, c.in_ok-put-in-MatchS-3.ensures, c.in_ok-set-in-MatchS.ensures, c.in_ok-put-in-MatchS-2.ensures, c.in_ok-expr-in-MatchS.ensures, c.in_ok-put-in-MatchS.ensures, c.get-in-MatchS.ensures, c.get-in-MatchS-2.ensures, c.get-in-MatchS-4.ensures, c.bytes-in-MatchS.ensures.bytes, c.get-in-MatchS-3.ensures) (simp append_assoc)
 
 pub expr_within-returns-then-expr_rank-least : goal.expr_within-returns-then-expr_rank-least
 expr_within-returns-then-expr_rank-least t c =

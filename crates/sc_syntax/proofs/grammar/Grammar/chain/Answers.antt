@@ -36,7 +36,7 @@ returns-in_err-of g c =
     let taken : IsTaken (Sign k.Dot) c.loop-turn.cursor c.take.new.self = record { piece = found.0; begins = begins; one_is = found.1 } in
     let some : starts (Lower ∷ []) c.take.new.self ≡ true = search rules in
     let p = err_from_is_err_and c.from_residual.result c.from_residual.ensures.1 in
-    let was = rw c.in_err-of.was at c.get_field.ensures in
+    let was = rw c.in_err-of.was at c.next_field.ensures in
     rw p.1 (chain_stuck (field_chain c.args.self.now.levels c.args.at) _ _ _ _ _ _ _ c.loop-turn-test.true c.loop-turn.invariant taken some (rw p.2 was))
 
 pub loop-turn-preserved : goal.loop-turn-preserved

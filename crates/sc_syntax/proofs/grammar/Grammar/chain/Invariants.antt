@@ -11,5 +11,5 @@ use Rattle.sc_syntax.proofs.grammar.Grammar.chain.Given as goal
 
 abbrev pub invariant-loop-turn : goal.invariant-loop-turn
 invariant-loop-turn g l =
-    made (λ v. v.1 (s.Path (fold get l.fn.of v.0) l.fn.at)) (reading l.self.levels chain_form l.fn.cursor)
+    made (λ v. v.1 (s.Path l.fn.at (fold get l.fn.of v.0))) (reading l.self.levels chain_form l.fn.cursor)
     ≡ chained (field_chain l.self.levels l.fn.at) (l._turn-end - l._turn) l.of l.cursor
