@@ -4,7 +4,7 @@
 //! The functions of a chain lie in a row that the caller has on the stack, since there is no
 //! allocator where formulas are walked.
 
-ghost use Rattle.std.specs.Prelude.{◌≡◌, ◌<◌, ◌∷◌, [], take, IfOk};
+ghost use Rattle.std.specs.Prelude.{◌≡◌, ◌+◌, ◌∷◌, [], take, IfOk};
 ghost use Rattle.sc_schema.specs.Views.{expr_of};
 ghost use Rattle.sc_schema.specs.Schema.{Schema};
 ghost use Rattle.sc_formula.specs.Trees as tree;
@@ -116,7 +116,7 @@ impl Chain {
 
 /// So many steps deeper into a walk as a row counts for.
 pub(crate) fn past_row(fuel: u32, steps: u32) -> Result<u32, AllocError>
-    ensures { IfOk result (λ less. less < fuel) }
+    ensures { IfOk result (λ less. less + steps + 1 ≡ fuel) }
 {
     deeper(fuel)?.checked_sub(steps).ok_or(AllocError)
 }

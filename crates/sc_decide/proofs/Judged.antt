@@ -80,6 +80,10 @@ module _ (g : Signature) (f n : Formula) (over : IsOver g [] n) (normal : IsNorm
   satisfied_by : (s : Structure) (picks : List ℕ) → SatisfiesWith g n s picks → Satisfies g f s
   satisfied_by s picks h = record { structure = h.structure; true_there = sym (same s []) ∙ leading_true s [] picks n h.elements h.true_there }
 
+  -- another structure, with elements of its own
+  pub found_too : (s t : Structure) (picks others : List ℕ) → IsFoundIn g f n s picks → SatisfiesWith g n t others → IsFoundIn g f n t others
+  found_too s t picks others h leading = record { satisfies = satisfied_by t others leading; leading = leading; within = h.within }
+
   module _ (stratified : IsStratified g n) (terms : List GroundTerm) (lists : Lists (IsHerbrandTerm g n) terms) (within : IsTooLarge (term_count g n) (node_count g n) → ⊥) where
     pub stratified_safe : (IsSatisfiableOver g n (Contains terms) → ⊥) → IsSafe g f n
     stratified_safe none = record {

@@ -14,11 +14,12 @@ use crate::shallow_terms::decide_shallow;
 use crate::stratified::decide_stratified;
 use crate::verdict::Verdict;
 use sc_formula::{Arena, Signature, nnf};
+use sc_smaller::smaller;
 use sc_strata::{Strata, strata};
 use std::alloc::{AllocError, Global};
 
-/// The verdict on a formula in negation normal form.
-fn decide_form(
+/// The verdict on a formula in negation normal form, by its terms.
+fn decide_by_terms(
     alloc: Global,
     arena: &Arena,
     id: u32,
@@ -36,11 +37,57 @@ fn decide_form(
     }
 }
 
+/// The verdict, with a smaller structure where one was found.
+fn shrink(
+    alloc: Global,
+    arena: &Arena,
+    id: u32,
+    signature: &Signature,
+    verdict: Verdict,
+) -> Result<Verdict, AllocError>
+    requires formula { IsFormula arena.now id }
+    requires over { IsOver signature.now [] (formula_of arena.now id) }
+    requires normal { IsNormal (formula_of arena.now id) }
+    requires verdict { IsVerdictOn signature.now
+        (formula_of arena.now id) (formula_of arena.now id) verdict }
+    ensures { IfOk result (λ less. (f : Formula) → IsEquallyTrue (formula_of arena.now id) f →
+        IsVerdictOn signature.now f (formula_of arena.now id) verdict →
+        IsVerdictOn signature.now f (formula_of arena.now id) less) }
+{
+    match verdict {
+        Verdict::Found(structure, picks) => {
+            let (structure, picks) = smaller(alloc, signature, arena, id, structure, picks)?;
+            Ok(Verdict::Found(structure, picks))
+        }
+        Verdict::Safe => Ok(Verdict::Safe),
+        Verdict::Unknown(cycle, tried) => Ok(Verdict::Unknown(cycle, tried)),
+        Verdict::TooLarge(terms, nodes) => Ok(Verdict::TooLarge(terms, nodes)),
+    }
+}
+
+/// The verdict on a formula in negation normal form.
+fn decide_form(
+    alloc: Global,
+    arena: &Arena,
+    id: u32,
+    signature: &Signature,
+) -> Result<Verdict, AllocError>
+    requires formula { IsFormula arena.now id }
+    requires over { IsOver signature.now [] (formula_of arena.now id) }
+    requires normal { IsNormal (formula_of arena.now id) }
+    ensures { IfOk result (λ verdict. (f : Formula) → IsEquallyTrue (formula_of arena.now id) f →
+        IsVerdictOn signature.now f (formula_of arena.now id) verdict) }
+{
+    let verdict = decide_by_terms(alloc, arena, id, signature)?;
+    shrink(alloc, arena, id, signature, verdict)
+}
+
 /// Decides a closed formula over all finite structures.
 ///
 /// On a stratified formula within the limits the verdict is Safe or Found. On one that is not
 /// stratified a structure is sought over its shallow terms: where there is none the verdict is
-/// Safe, and else Found or Unknown, as the structure satisfies the formula or does not.
+/// Safe, and else Found or Unknown, as the structure satisfies the formula or does not. A structure
+/// that is found has fewer elements than terms where some can be left out and that takes not long.
 pub fn decide(
     alloc: Global,
     arena: &mut Arena,

@@ -1,12 +1,15 @@
 //! What holds of the trees of any tokens.
 
-ghost use Rattle.std.specs.Prelude.{[], ℕ, List, ◌≡◌, ◌≤◌};
+ghost use Rattle.std.specs.Prelude.{[], ℕ, List, true, ◌≡◌, ◌≤◌, ◌∷◌};
 ghost use Rattle.sc_ast.specs.Pieces.{Piece};
-ghost use Rattle.sc_tree.specs.Texts.{IsSpelled, IsSpelledAt};
+ghost use Rattle.sc_tree.specs.ExprGrammar.{Part};
+ghost use Rattle.sc_tree.specs.Forms.{may};
+ghost use Rattle.sc_tree.specs.Texts.{IsSpelled, IsSpelledAt, first_of};
 ghost use Rattle.sc_tree.specs.Grammar.{most_levels, spec_form, script_form};
 ghost use Rattle.sc_tree.specs.declared.models.Spec.{Spec};
 ghost use Rattle.sc_tree.specs.declared.commands.Script.{Script};
 ghost use Rattle.sc_forms.specs.Answers.{Means, answer};
+ghost use Rattle.sc_forms.specs.Firsts.{BeginsItself};
 ghost use Rattle.sc_forms.specs.Reading.{Got};
 
 /// Tokens spell at most one specification and at most one script, however many items they have and
@@ -34,4 +37,13 @@ pub fn script_answers()
         answer script_form ls ≡ Got x [] }
     ensures means { (m : ℕ) → most_levels ≤ m → (ls : List Piece) →
         Means m script_form ls (answer script_form ls) }
+{}
+
+/// An expression or a set begins with a token exactly where `first_of` lists it. No other stands
+/// first in it, so that this is no matter of levels.
+pub fn first_tokens_begin()
+    ensures begin { (p : Part) (l : Piece) → may (first_of p) l ≡ true →
+        BeginsItself p (l ∷ []) }
+    ensures only { (p : Part) (l : Piece) (ls : List Piece) → BeginsItself p (l ∷ ls) →
+        may (first_of p) l ≡ true }
 {}

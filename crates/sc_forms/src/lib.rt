@@ -9,4 +9,4 @@
 
 mod laws;
 
-pub use laws::{one_tree, script_answers, spec_answers};
+pub use laws::{first_tokens_begin, one_tree, script_answers, spec_answers};

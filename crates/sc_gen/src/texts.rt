@@ -42,11 +42,11 @@ fn write_field(out: &mut Printer, alloc: Global, number: u32) -> Result<(), Allo
 fn write_fields(out: &mut Printer, alloc: Global, count: u32) -> Result<(), AllocError>
     ensures { OnOk result (out.new ≡ out.old ++ spec.fields_text count) }
 {
-    if count == 0 {
-        return Ok(());
+    let mut number = 0;
+    while number < count {
+        number += 1;
+        write_field(out, alloc, number)?;
     }
-    write_fields(out, alloc, count - 1)?;
-    write_field(out, alloc, count)?;
     Ok(())
 }
 
@@ -84,17 +84,12 @@ fn write_command(
 fn write_tightened(out: &mut Printer, alloc: Global, count: u32) -> Result<(), AllocError>
     ensures { OnOk result (out.new ≡ out.old ++ spec.script_text count) }
 {
-    if count == 0 {
-        return Ok(());
+    let mut number = 0;
+    while number < count {
+        number += 1;
+        let level = Filters::Level(number);
+        write_command(out, alloc, number, level, level)?;
     }
-    write_tightened(out, alloc, count - 1)?;
-    write_command(
-        out,
-        alloc,
-        count,
-        Filters::Level(count),
-        Filters::Level(count),
-    )?;
     Ok(())
 }
 

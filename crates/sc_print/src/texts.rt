@@ -10,7 +10,7 @@ use sc_tree::{Policy, Script, Spec};
 use std::alloc::{AllocError, Global};
 
 /// The canonical text of a policy.
-pub fn print_policy(policy: &Policy, alloc: Global) -> Result<Vec<u8>, AllocError>
+pub fn print_policy(alloc: Global, policy: &Policy) -> Result<Vec<u8>, AllocError>
     ensures { IfOk result (λ text. text.items ≡ text_of_marks (spelled_policy policy.now)) }
 {
     let mut printer = Printer::new(alloc);
@@ -19,7 +19,7 @@ pub fn print_policy(policy: &Policy, alloc: Global) -> Result<Vec<u8>, AllocErro
 }
 
 /// The canonical text of a specification.
-pub fn print_spec(spec: &Spec, alloc: Global) -> Result<Vec<u8>, AllocError>
+pub fn print_spec(alloc: Global, spec: &Spec) -> Result<Vec<u8>, AllocError>
     ensures { IfOk result (λ text. text.items ≡ text_of_marks (spelled_spec spec.now)) }
 {
     let mut printer = Printer::new(alloc);
@@ -28,7 +28,7 @@ pub fn print_spec(spec: &Spec, alloc: Global) -> Result<Vec<u8>, AllocError>
 }
 
 /// The canonical text of a script.
-pub fn print_script(script: &Script, alloc: Global) -> Result<Vec<u8>, AllocError>
+pub fn print_script(alloc: Global, script: &Script) -> Result<Vec<u8>, AllocError>
     ensures { IfOk result (λ text. text.items ≡ text_of_marks (spelled_script script.now)) }
 {
     let mut printer = Printer::new(alloc);

@@ -71,6 +71,7 @@ pub fn answer_to<F: Shelf>(alloc: Global, words: &[Txt], shelf: &mut F) -> Resul
     ensures answered { Runs (F.told shelf.old) words.now result }
     ensures shelf { IsRead F.told F.faults shelf.old shelf.new (result ≡ Err Stop.ReadFault) }
     ensures not_called { spec_words.check_of words.now ≡ None → shelf.new ≡ shelf.old }
+    ensures no_fault { spec_words.check_of words.now ≡ None → result ≢ Err Stop.ReadFault }
 {
     if let Some(names) = check_of(words) {
         return Ok(Answer::Checked(check_files(alloc, shelf, names)?));

@@ -32,8 +32,9 @@ fn put_answer<W: Sink>(alloc: Global, answer: &Answer, out: &mut W) -> Status
 }
 
 /// Checks the script of the words against the specification of the words, and writes what it
-/// finds: that no command gains anybody a right on any database of any size, or a witness of the
-/// first obligation that fails, or that this obligation could not be decided.
+/// finds: that no command gains anybody a right that it does not declare, on any database of any
+/// size, or a witness of the first obligation that fails, or that this obligation could not be
+/// decided.
 ///
 /// `gen N` makes a specification of N fields, from 1 to 60, and two scripts that change the
 /// policies of each, checks both, and writes a line on each.
@@ -53,6 +54,7 @@ pub fn run<F: Shelf, W: Sink>(alloc: Global, words: &[Txt], shelf: &mut F, out: 
     ensures out { IsWritten W.faults out.old out.new (IsSilent result) (result
         ≡ Status.WriteFault) }
     ensures not_called { check_of words.now ≡ None → shelf.new ≡ shelf.old }
+    ensures not_read { check_of words.now ≡ None → result ≢ Status.ReadFault }
     ensures usage { IsNoCommand words.now → IsOfUsage result }
 {
     match answer_to(alloc, words, shelf) {

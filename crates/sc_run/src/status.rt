@@ -9,7 +9,7 @@ use std::process::ExitCode;
 /// How a run ended, with its exit status.
 #[derive(Clone, Copy, Debug, PartialEq, Eq)]
 pub enum Status {
-    /// No command of the script gains anybody a right.
+    /// No command of the script gains anybody a right that it does not declare.
     Done = 0,
     /// The words are no command.
     Usage = 2,

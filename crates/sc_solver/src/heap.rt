@@ -108,7 +108,7 @@ impl Heap {
         self.places[var as usize] = place as u32;
     }
 
-    /// Moves the variable at a place up, before those that come after it.
+    /// Moves the variable at a place up, as long as it is before the one above it (`is_before`).
     fn lift(&mut self, start: usize, scores: &[u64])
         requires start { start < self.old }
         requires one_each { length scores.now ≡ self.old }
@@ -128,7 +128,7 @@ impl Heap {
         self.put(place, var);
     }
 
-    /// Moves the first variable down, behind those that come before it.
+    /// Moves the first variable down, as long as one below is before it (`is_before`).
     fn sink(&mut self, scores: &[u64])
         requires some { 0 < self.old }
         requires one_each { length scores.now ≡ self.old }

@@ -7,7 +7,6 @@ use Rattle.sc_tree.specs.ExprGrammar.{G, rule}
 use Rattle.sc_tree.specs.Grammar.{most_levels}
 use Rattle.sc_print.specs.Marks.{Mark, lexemes_of_marks}
 use Rattle.sc_spelling.specs.Reprinted.{AreOf, AreTokens, IsReprinted, lexeme}
-use Rattle.sc_spelling.proofs.Printed.{Again}
 use Rattle.sc_spelling.proofs.Canonical.{AreGood, Canonical, lexemes}
 
 pub good_of : (ls : List Piece) → AreTokens ls → AreGood ls
@@ -24,8 +23,8 @@ reprinted f stripped x n marks ks h of =
     let r = h.reads ks (mapped_is ks ∙ of) in
     record { tree = r.value; spells = r.spells; same = r.is; short = r.short }
 
-pub reprinted_whole : {A : Type 0} (f : G A) (stripped : A → A) (x : A) (marks : List Mark) (ks : List Piece)
-    → Again (λ y. stripped y ≡ stripped x) (Spells (SpellsPart rule most_levels) f) (lexemes_of_marks marks) → AreOf marks ks → IsReprinted f stripped x (length ks) ks
-reprinted_whole f stripped x marks ks h of =
-    let r = h.canon.reads ks (mapped_is ks ∙ of) in
+pub reprinted_whole : {A : Type 0} (f : G A) (stripped : A → A) (x : A) (n : ℕ) (marks : List Mark) (ks : List Piece)
+    → Canonical (λ y. stripped y ≡ stripped x) (Spells (SpellsPart rule most_levels) f) (lexemes_of_marks marks) n → AreOf marks ks → IsReprinted f stripped x (length ks) ks
+reprinted_whole f stripped x n marks ks h of =
+    let r = h.reads ks (mapped_is ks ∙ of) in
     record { tree = r.value; spells = r.spells; same = r.is; short = omega arith }

@@ -1,5 +1,5 @@
 -- What is printed of commands and scripts spells them.
-use Rattle.std.proofs.Common.{◌≡◌, ◌+◌, inl, inr, ℕ, arith, List, [], ◌∷◌, ◌++◌, length, codes, refl, sym, ◌∙◌, ap, subst, append_assoc, append-nil, Some, None}
+use Rattle.std.proofs.Common.{◌≡◌, inl, inr, ℕ, arith, List, [], ◌∷◌, ◌++◌, length, codes, refl, sym, ◌∙◌, ap, subst, append_assoc, append-nil, Some, None}
 use Rattle.std.specs.Prelude.{Option}
 use Rattle.sc_lexer.specs.declared.token.TokenKind.TheVariants as k
 use Rattle.sc_lexer.specs.Lexeme.{Lexeme, sign_of}
@@ -15,7 +15,7 @@ use Rattle.sc_tree.specs.declared.commands.Command.{Command}
 use Rattle.sc_tree.specs.declared.commands.Command.TheVariants as command
 use Rattle.sc_tree.specs.declared.commands.Script.{Script}
 use Rattle.sc_tree.specs.Forms.{AtMost, TooManyCommands, Spells, Sign, Word, Upper, Lower, Literal, nothing, token, either, each, mapped, part, within}
-use Rattle.sc_tree.specs.ExprGrammar.{G, Expression, Set, ◌⨾◌, behind, lambda, named, parens, sign, type_word}
+use Rattle.sc_tree.specs.ExprGrammar.{G, Expression, Set, ◌⨾◌, behind, lambda, named, parens, sign, upper_keyword}
 use Rattle.sc_tree.specs.Grammar.{add_field, added_plain, added_set, command_form, field_of, field_right_list, field_rights, model_command, model_form, model_right_list, most_commands, most_tokens, named_command, plain_type, reason_form, remove_field, right, rights, script_form, set_type, update_field, update_model, weaken_field, weaken_model}
 use Rattle.sc_tree.specs.LiteralValue.{literal_value}
 use Rattle.sc_tree.specs.Stripped.{stripped_command, stripped_field, stripped_init, stripped_name, stripped_reason, stripped_right, stripped_script}
@@ -26,11 +26,12 @@ use Rattle.sc_print.specs.Models.{spelled_model}
 use Rattle.sc_print.specs.Marks.{Mark, lexemes_of_marks, quoted}
 use Rattle.sc_print.specs.Marks as mark
 use Rattle.sc_spelling.proofs.Canonical as c
-use Rattle.sc_spelling.proofs.Canonical.{AreGood, Canonical, Same, flat, moved, good_back, good_front, good_one}
+use Rattle.sc_spelling.proofs.Canonical.{AreGood, Canonical, Same, flat, moved, good_back, good_front, good_one, size_of, size_one}
 use Rattle.sc_spelling.proofs.ExprForms.{name_as}
+use Rattle.sc_spelling.proofs.LastCommas.{Calm}
 use Rattle.sc_spelling.proofs.ModelForms.{AsModel, brace_close, flat_lexemes, flat_marks, items_lexemes, model_lexemes, p_fields_flat, p_model}
 use Rattle.sc_spelling.proofs.PolicyForms.{AsPolicy, AsRights, AsType, Unseen, braced, colon, comma, enclosed, field_as, field_marks, p_field_rights, p_plain_type, p_right, p_set_type, p_type_word, right_lexemes, rights_lexemes, type, type_lexemes, word}
-use Rattle.sc_spelling.proofs.Printed.{Again, Prints, again, p_behind, p_both, p_braces, p_each, p_either, p_literal, p_lower, p_mapped, p_parens, p_upper, within_c}
+use Rattle.sc_spelling.proofs.Printed.{Prints, p_behind, p_both, p_braces, p_each, p_either, p_literal, p_lower, p_mapped, p_parens, p_upper, within_c, without}
 use Rattle.sc_spelling.proofs.Ranks.{AsExpr, expr_lexemes, lexemes_append}
 use Rattle.sc_spelling.proofs.SetForms.{same_map}
 use Rattle.sc_spelling.proofs.SetRanks.{AsSet, Knows, set_lexemes}
@@ -57,18 +58,19 @@ p_inner : (S : Pieces) → Knows S → (one two : List ℕ) → Canonical Any (T
 p_inner S know one two h j x ls good (inl (v, is, (p, q, g, first, inl (b, same, d)))) =
     let a = p_right S know one h v.0 p (good_front ls p q g good) first in
     let e = p_behind S (Sign k.Comma) comma (right two) AsPolicy (right_lexemes two) (comma_token S) (p_right S know two j) b q (good_back ls p q g good) d in
-    subst (λ z. Again (AsBoth z) (Spells S (Inner one two)) (given_lexemes one two z)) (sym (is ∙ ap (λ z. (Some v.0, z)) same))
-    (again {n = a.most + e.most} (c.rewritten (lexemes_append (model.right one v.0) (mark.sign k.Comma ∷ mark.sp ∷ model.right two b)) (omega arith)
+    subst (λ z. Canonical (AsBoth z) (Spells S (Inner one two)) (given_lexemes one two z) (length ls)) (sym (is ∙ ap (λ z. (Some v.0, z)) same))
+    (c.rewritten (lexemes_append (model.right one v.0) (mark.sign k.Comma ∷ mark.sp ∷ model.right two b)) (omega (arith, size_of ls p q g))
     (moved (λ w. (Some w.0, Some w.1)) (λ w r. (ap Some r.0, ap Some r.1)) (λ w ks (p2, q2, g2, d1, d2). inl ((w.0, Some w.1), refl, (p2, q2, g2, d1, inl (w.1, refl, d2))))
-    (c.both a.canon e.canon))))
+    (c.both a e)))
 p_inner S know one two h j x ls good (inl (v, is, (p, q, g, first, inr (none, nil)))) =
     let a = p_right S know one h v.0 p (good_front ls p q g good) first in
-    subst (λ z. Again (AsBoth z) (Spells S (Inner one two)) (given_lexemes one two z)) (sym (is ∙ ap (λ z. (Some v.0, z)) none))
-    (again (moved (λ w. (Some w, None)) (λ w r. (ap Some r, refl)) (λ w ks d. inl ((w, None), refl, (ks, [], sym (append-nil ks), d, inr (refl, refl)))) a.canon))
+    subst (λ z. Canonical (AsBoth z) (Spells S (Inner one two)) (given_lexemes one two z) (length ls)) (sym (is ∙ ap (λ z. (Some v.0, z)) none))
+    (c.rewritten refl (omega (arith, size_of ls p q g))
+    (moved (λ w. (Some w, None)) (λ w r. (ap Some r, refl)) (λ w ks d. inl ((w, None), refl, (ks, [], sym (append-nil ks), d, inr (refl, refl)))) a))
 p_inner S know one two h j x ls good (inr (b, is, d)) =
     let a = p_right S know two j b ls good d in
-    subst (λ z. Again (AsBoth z) (Spells S (Inner one two)) (given_lexemes one two z)) (sym is)
-    (again (moved (λ w. (None, Some w)) (λ w r. (refl, ap Some r)) (λ w ks d. inr (w, refl, d)) a.canon))
+    subst (λ z. Canonical (AsBoth z) (Spells S (Inner one two)) (given_lexemes one two z) (length ls)) (sym is)
+    (moved (λ w. (None, Some w)) (λ w r. (refl, ap Some r)) (λ w ks d. inr (w, refl, d)) a)
 
 pub p_rights : (S : Pieces) → Knows S → (one two : List ℕ) → Canonical Any (Tok S (Word k.Lower one)) (word one ∷ []) 1 → Canonical Any (Tok S (Word k.Lower two)) (word two ∷ []) 1
     → Prints S (rights one two) AsBoth (λ v. braced (given_lexemes one two v))
@@ -123,7 +125,8 @@ p_lambda : {A : Type 0} (S : Pieces) (f : G A) (R : A → A → Type 0) (m : A �
 p_lambda S f R m one v ls good (p, q, g, (ni, na), (y, yis, (a, b, g2, i, (d, few)))) =
     let known = one y.1 b (good_back q a b g2 (good_back ls p q g good)) d in
     let h = lambda_c S (within most_tokens f) v.0 (good_one p v.0 ni (good_front ls p q g good)) na (within_c S most_tokens (length b) f few known) in
-    subst (λ z. Again (λ (w : Piece × _). (w.0.bytes ≡ v.0.bytes) × R z w.1) (Spells S (lambda (within most_tokens f))) (word v.0.bytes ∷ arrow ∷ m z)) (sym yis) (again h)
+    subst (λ z. Canonical (λ (w : Piece × _). (w.0.bytes ≡ v.0.bytes) × R z w.1) (Spells S (lambda (within most_tokens f))) (word v.0.bytes ∷ arrow ∷ m z) (length ls)) (sym yis)
+    (c.rewritten refl (omega (arith, size_of ls p q g, size_of q a b g2, size_one p v.0 ni, size_one a y.0 i.0)) h)
 
 abbrev pub Added : Type 0
 Added = (Ty × Policy × Policy) × Piece × Init
@@ -180,30 +183,30 @@ abbrev pub command_lexemes : Command → List Lexeme
 command_lexemes x = lexemes_of_marks (spelled_command x)
 
 -- what follows the name of the model
-pub record Behind (S : Pieces) (form : G Tail) (f : Tail) : Type 0 where
+pub record Behind (S : Pieces) (form : G Tail) (f : Tail) (most : ℕ) : Type 0 where
   pub marks : List Lexeme
   pub begins : (l : Piece) → command_lexemes (f l) ≡ type l.bytes ∷ colons ∷ marks
-  pub again : Again (AsTail f) (Spells S form) marks
+  pub canon : Canonical (AsTail f) (Spells S form) marks most
 
 behind_model : {A : Type 0} (S : Pieces) (make : A → Tail) (form : G A) (R : A → A → Type 0) (m : A → List Lexeme)
     → ((v w : A) → R v w → AsTail (make v) (make w)) → ((v : A) (l : Piece) → command_lexemes (make v l) ≡ type l.bytes ∷ colons ∷ m v) → Prints S form R m
-    → (f : Tail) (ls : List Piece) → AreGood ls → Spells S (mapped make form) f ls → Behind S (mapped make form) f
+    → (f : Tail) (ls : List Piece) → AreGood ls → Spells S (mapped make form) f ls → Behind S (mapped make form) f (length ls)
 behind_model S make form R m same begins one f ls good (v, is, d) =
-    subst (λ z. Behind S (mapped make form) z) (sym is)
-    (record { marks = m v; begins = begins v; again = again (moved make (same v) (λ w ks e. (w, refl, e)) (one v ls good d).canon) })
+    subst (λ z. Behind S (mapped make form) z (length ls)) (sym is)
+    (record { marks = m v; begins = begins v; canon = moved make (same v) (λ w ks e. (w, refl, e)) (one v ls good d) })
 
-either_behind : (S : Pieces) (f g : G Tail) → ((x : Tail) (ls : List Piece) → AreGood ls → Spells S f x ls → Behind S f x)
-    → ((x : Tail) (ls : List Piece) → AreGood ls → Spells S g x ls → Behind S g x) → (x : Tail) (ls : List Piece) → AreGood ls → Spells S (either f g) x ls → Behind S (either f g) x
+either_behind : (S : Pieces) (f g : G Tail) → ((x : Tail) (ls : List Piece) → AreGood ls → Spells S f x ls → Behind S f x (length ls))
+    → ((x : Tail) (ls : List Piece) → AreGood ls → Spells S g x ls → Behind S g x (length ls)) → (x : Tail) (ls : List Piece) → AreGood ls → Spells S (either f g) x ls → Behind S (either f g) x (length ls)
 either_behind S f g one other x ls good (inl d) =
-    let b = one x ls good d in record { marks = b.marks; begins = b.begins; again = again (moved (λ y. y) (λ y r. r) (λ y ks e. inl e) b.again.canon) }
+    let b = one x ls good d in record { marks = b.marks; begins = b.begins; canon = moved (λ y. y) (λ y r. r) (λ y ks e. inl e) b.canon }
 either_behind S f g one other x ls good (inr d) =
-    let b = other x ls good d in record { marks = b.marks; begins = b.begins; again = again (moved (λ y. y) (λ y r. r) (λ y ks e. inr e) b.again.canon) }
+    let b = other x ls good d in record { marks = b.marks; begins = b.begins; canon = moved (λ y. y) (λ y r. r) (λ y ks e. inr e) b.canon }
 
 abbrev pub named_word : List ℕ → List Lexeme → List Lexeme
 named_word name m = type name ∷ enclosed m
 
 p_applied : {A : Type 0} (S : Pieces) (name : List ℕ) (f : G A) (R : A → A → Type 0) (m : A → List Lexeme) → Canonical Any (Tok S (Word k.Upper name)) (type name ∷ []) 1 → Prints S f R m
-    → Prints S (behind (type_word name) (parens f)) R (λ x. named_word name (m x))
+    → Prints S (behind (upper_keyword name) (parens f)) R (λ x. named_word name (m x))
 p_applied S name f R m h one = p_behind S (Word k.Upper name) (type name) (parens f) R (λ x. enclosed (m x)) h (p_parens S f R m one)
 
 pub add_as : (n l : Piece) (w v : Added) → n.bytes ≡ l.bytes → AsAdded v w
@@ -233,11 +236,11 @@ add_marks l v owner =
     ap (λ z. type owner.bytes ∷ colons ∷ type (codes "AddField") ∷ at k.ParenOpen (sign_of k.ParenOpen) ∷ z)
     (lexemes_append (print.added field (named v.1) v.2) print.close ∙ ap (λ (z : List Lexeme). z ++ close) whole)
 
-p_add : (S : Pieces) → Knows S → (f : Tail) (ls : List Piece) → AreGood ls → Spells S add_field f ls → Behind S add_field f
+p_add : (S : Pieces) → Knows S → (f : Tail) (ls : List Piece) → AreGood ls → Spells S add_field f ls → Behind S add_field f (length ls)
 unfolding add_field
 p_add S know =
     behind_model S (λ v model. command.AddField (named model) (field_of v.0 v.1.0.0 (v.1.0.1, v.1.0.2)) (named v.1.1) v.1.2 model.at)
-    (behind (type_word (codes "AddField")) (parens (token Lower ⨾ behind (sign k.Colon) (either added_set added_plain))))
+    (behind (upper_keyword (codes "AddField")) (parens (token Lower ⨾ behind (sign k.Colon) (either added_set added_plain))))
     (λ v w. (w.0.bytes ≡ v.0.bytes) × AsAdded v.1 w.1) (λ v. named_word (codes "AddField") (word v.0.bytes ∷ [] ++ colon ∷ added_lexemes v.1))
     (λ v w r. add_as w.0 v.0 w.1 v.1 r.0 r.1) (λ v l. add_marks v.0 v.1 l)
     (p_applied S (codes "AddField") (token Lower ⨾ behind (sign k.Colon) (either added_set added_plain)) (λ v w. (w.0.bytes ≡ v.0.bytes) × AsAdded v.1 w.1)
@@ -250,10 +253,10 @@ pub remove_as : (n l : Piece) → n.bytes ≡ l.bytes → AsTail (λ model. comm
 remove_as n l e i j h =
     ap (λ z. command.RemoveField z (stripped_name (named n)) 0) (name_as j i h) ∙ ap (λ z. command.RemoveField (stripped_name (named i)) z 0) (name_as n l e)
 
-p_remove : (S : Pieces) → (f : Tail) (ls : List Piece) → AreGood ls → Spells S remove_field f ls → Behind S remove_field f
+p_remove : (S : Pieces) → (f : Tail) (ls : List Piece) → AreGood ls → Spells S remove_field f ls → Behind S remove_field f (length ls)
 unfolding remove_field
 p_remove S =
-    behind_model S (λ l model. command.RemoveField (named model) (named l) model.at) (behind (type_word (codes "RemoveField")) (parens (token Lower)))
+    behind_model S (λ l model. command.RemoveField (named model) (named l) model.at) (behind (upper_keyword (codes "RemoveField")) (parens (token Lower)))
     (λ l m. m.bytes ≡ l.bytes) (λ l. named_word (codes "RemoveField") (word l.bytes ∷ [])) (λ v w r. remove_as w v r) (λ v l. refl)
     (p_applied S (codes "RemoveField") (token Lower) (λ l m. m.bytes ≡ l.bytes) (λ l. word l.bytes ∷ []) (upper_word S (codes "RemoveField") refl refl refl) (p_lower S))
 
@@ -275,11 +278,11 @@ update_marks l v model =
     ap (λ z. type model.bytes ∷ colons ∷ type (codes "UpdateFieldPolicy") ∷ at k.ParenOpen (sign_of k.ParenOpen) ∷ word l.bytes ∷ comma ∷ z)
     (lexemes_append (print.rights (codes "read") (codes "write") v.0 v.1) print.close ∙ ap (λ (z : List Lexeme). z ++ close) (given_marks (codes "read") (codes "write") v))
 
-p_update : (S : Pieces) → Knows S → (f : Tail) (ls : List Piece) → AreGood ls → Spells S update_field f ls → Behind S update_field f
+p_update : (S : Pieces) → Knows S → (f : Tail) (ls : List Piece) → AreGood ls → Spells S update_field f ls → Behind S update_field f (length ls)
 unfolding update_field
 p_update S know =
     behind_model S (λ v model. command.UpdateFieldPolicy (named model) (named v.0) v.1.0 v.1.1 model.at)
-    (behind (type_word (codes "UpdateFieldPolicy")) (parens (token Lower ⨾ behind (sign k.Comma) field_right_list)))
+    (behind (upper_keyword (codes "UpdateFieldPolicy")) (parens (token Lower ⨾ behind (sign k.Comma) field_right_list)))
     (λ v w. (w.0.bytes ≡ v.0.bytes) × AsBoth v.1 w.1) (λ v. named_word (codes "UpdateFieldPolicy") (word v.0.bytes ∷ [] ++ comma ∷ field_given v.1))
     (λ v w r. update_as w.0 v.0 w.1 v.1 r.0 r.1) (λ v l. update_marks v.0 v.1 l)
     (p_applied S (codes "UpdateFieldPolicy") (token Lower ⨾ behind (sign k.Comma) field_right_list) (λ v w. (w.0.bytes ≡ v.0.bytes) × AsBoth v.1 w.1)
@@ -304,11 +307,11 @@ because_marks one two v p =
     ∙ ap (λ (z : List Lexeme). z ++ comma ∷ at k.Text (quoted p.text) ∷ close) (given_marks one two v)
     ∙ sym (append_assoc (braced (given_lexemes one two v)) (comma ∷ reason_lexemes p) close)
 
-p_weaken : (S : Pieces) → Knows S → (f : Tail) (ls : List Piece) → AreGood ls → Spells S weaken_field f ls → Behind S weaken_field f
+p_weaken : (S : Pieces) → Knows S → (f : Tail) (ls : List Piece) → AreGood ls → Spells S weaken_field f ls → Behind S weaken_field f (length ls)
 unfolding weaken_field
 p_weaken S know =
     behind_model S (λ v model. command.WeakenFieldPolicy (named model) (named v.0) v.1.0.0 v.1.0.1 v.1.1 model.at)
-    (behind (type_word (codes "WeakenFieldPolicy")) (parens (token Lower ⨾ (behind (sign k.Comma) field_right_list ⨾ behind (sign k.Comma) reason_form))))
+    (behind (upper_keyword (codes "WeakenFieldPolicy")) (parens (token Lower ⨾ (behind (sign k.Comma) field_right_list ⨾ behind (sign k.Comma) reason_form))))
     (λ v w. (w.0.bytes ≡ v.0.bytes) × (AsBoth v.1.0 w.1.0 × AsReason v.1.1 w.1.1))
     (λ v. named_word (codes "WeakenFieldPolicy") (word v.0.bytes ∷ [] ++ (comma ∷ field_given v.1.0 ++ comma ∷ reason_lexemes v.1.1)))
     (λ v w r. weaken_as w.0 v.0 w.1.0 v.1.0 w.1.1 v.1.1 r.0 r.1.0 r.1.1)
@@ -328,10 +331,10 @@ update_model_as w v r i j h =
     ap (λ z. command.UpdatePolicy z (stripped_right w.0) (stripped_right w.1) 0) (name_as j i h)
     ∙ ap (λ z. command.UpdatePolicy (stripped_name (named i)) z (stripped_right w.1) 0) r.0 ∙ ap (λ z. command.UpdatePolicy (stripped_name (named i)) (stripped_right v.0) z 0) r.1
 
-p_update_model : (S : Pieces) → Knows S → (f : Tail) (ls : List Piece) → AreGood ls → Spells S update_model f ls → Behind S update_model f
+p_update_model : (S : Pieces) → Knows S → (f : Tail) (ls : List Piece) → AreGood ls → Spells S update_model f ls → Behind S update_model f (length ls)
 unfolding update_model
 p_update_model S know =
-    behind_model S (λ v model. command.UpdatePolicy (named model) v.0 v.1 model.at) (behind (type_word (codes "UpdatePolicy")) (parens model_right_list)) AsBoth
+    behind_model S (λ v model. command.UpdatePolicy (named model) v.0 v.1 model.at) (behind (upper_keyword (codes "UpdatePolicy")) (parens model_right_list)) AsBoth
     (λ v. named_word (codes "UpdatePolicy") (model_given v)) (λ v w r. update_model_as w v r)
     (λ v l. ap (λ z. type l.bytes ∷ colons ∷ type (codes "UpdatePolicy") ∷ at k.ParenOpen (sign_of k.ParenOpen) ∷ z)
     (lexemes_append (print.rights (codes "create") (codes "delete") v.0 v.1) print.close ∙ ap (λ (z : List Lexeme). z ++ close) (given_marks (codes "create") (codes "delete") v)))
@@ -345,11 +348,11 @@ weaken_model_as w v q p r f i j h =
     ∙ ap (λ z. command.WeakenPolicy (stripped_name (named i)) (stripped_right v.0) z (stripped_reason q) 0) r.1
     ∙ ap (λ z. command.WeakenPolicy (stripped_name (named i)) (stripped_right v.0) (stripped_right v.1) z 0) f
 
-p_weaken_model : (S : Pieces) → Knows S → (f : Tail) (ls : List Piece) → AreGood ls → Spells S weaken_model f ls → Behind S weaken_model f
+p_weaken_model : (S : Pieces) → Knows S → (f : Tail) (ls : List Piece) → AreGood ls → Spells S weaken_model f ls → Behind S weaken_model f (length ls)
 unfolding weaken_model
 p_weaken_model S know =
     behind_model S (λ v model. command.WeakenPolicy (named model) v.0.0 v.0.1 v.1 model.at)
-    (behind (type_word (codes "WeakenPolicy")) (parens (model_right_list ⨾ behind (sign k.Comma) reason_form))) (λ v w. AsBoth v.0 w.0 × AsReason v.1 w.1)
+    (behind (upper_keyword (codes "WeakenPolicy")) (parens (model_right_list ⨾ behind (sign k.Comma) reason_form))) (λ v w. AsBoth v.0 w.0 × AsReason v.1 w.1)
     (λ v. named_word (codes "WeakenPolicy") (model_given v.0 ++ comma ∷ reason_lexemes v.1)) (λ v w r. weaken_model_as w.0 v.0 w.1 v.1 r.0 r.1)
     (λ v l. ap (λ z. type l.bytes ∷ colons ∷ type (codes "WeakenPolicy") ∷ at k.ParenOpen (sign_of k.ParenOpen) ∷ z) (because_marks (codes "create") (codes "delete") v.0 v.1))
     (p_applied S (codes "WeakenPolicy") (model_right_list ⨾ behind (sign k.Comma) reason_form) (λ v w. AsBoth v.0 w.0 × AsReason v.1 w.1)
@@ -360,7 +363,7 @@ p_weaken_model S know =
 abbrev pub Tails : G Tail
 Tails = either add_field (either remove_field (either update_field (either weaken_field (either update_model weaken_model))))
 
-tails : (S : Pieces) → Knows S → (f : Tail) (ls : List Piece) → AreGood ls → Spells S Tails f ls → Behind S Tails f
+tails : (S : Pieces) → Knows S → (f : Tail) (ls : List Piece) → AreGood ls → Spells S Tails f ls → Behind S Tails f (length ls)
 tails S know =
     either_behind S add_field (either remove_field (either update_field (either weaken_field (either update_model weaken_model)))) (p_add S know)
     (either_behind S remove_field (either update_field (either weaken_field (either update_model weaken_model))) (p_remove S)
@@ -372,10 +375,10 @@ p_on_model : (S : Pieces) → Knows S → Prints S model_command AsCommand comma
 unfolding model_command
 p_on_model S know x ls good (v, is, (p, q, g, (ni, na), (u, uis, (a, b, g2, i, d)))) =
     let rest = tails S know u.1 b (good_back q a b g2 (good_back ls p q g good)) d in
-    subst (λ z. Again (AsCommand z) (Spells S model_command) (command_lexemes z)) (sym (is ∙ ap (λ f. f v.0) uis))
-    (again {n = 1 + (1 + rest.again.most)} (c.rewritten (rest.begins v.0) (omega arith)
+    subst (λ z. Canonical (AsCommand z) (Spells S model_command) (command_lexemes z) (length ls)) (sym (is ∙ ap (λ f. f v.0) uis))
+    (c.rewritten (rest.begins v.0) (omega (arith, size_of ls p q g, size_of q a b g2, size_one p v.0 ni, size_one a u.0 i.0))
     (moved (λ w. w.1.1 w.0) (λ w r. r.1.1 v.0 w.0 r.0) (λ w ks (p2, q2, h, n, e). ((w.0, w.1.1), refl, (p2, q2, h, n, (w.1, refl, e))))
-    (c.both (upper_token S v.0 (good_one p v.0 ni (good_front ls p q g good)) na) (c.both (colons_token S) rest.again.canon)))))
+    (c.both (upper_token S v.0 (good_one p v.0 ni (good_front ls p q g good)) na) (c.both (colons_token S) rest.canon))))
 
 -- ---- the other commands, and scripts
 
@@ -383,35 +386,35 @@ p_naming : (S : Pieces) (name : List ℕ) (make : Named → ℕ → Command) →
     → ((l m : Piece) (i j : ℕ) → m.bytes ≡ l.bytes → AsCommand (make (named l) i) (make (named m) j))
     → ((l : Piece) (i : ℕ) → command_lexemes (make (named l) i) ≡ type name ∷ enclosed (type l.bytes ∷ [])) → Prints S (named_command name make) AsCommand command_lexemes
 p_naming S name make h same spelled =
-    p_mapped S (λ v. make (named v.1) v.0.at) (type_word name ⨾ parens (token Upper)) (λ v w. Unseen v.0 w.0 × (w.1.bytes ≡ v.1.bytes))
+    p_mapped S (λ v. make (named v.1) v.0.at) (upper_keyword name ⨾ parens (token Upper)) (λ v w. Unseen v.0 w.0 × (w.1.bytes ≡ v.1.bytes))
     (λ v. type name ∷ [] ++ enclosed (type v.1.bytes ∷ [])) AsCommand command_lexemes (λ v w r. same v.1 w.1 v.0.at w.0.at r.1) (λ v. spelled v.1 v.0.at)
-    (p_both S (type_word name) (parens (token Upper)) Unseen (λ l m. m.bytes ≡ l.bytes) (λ l. type name ∷ []) (λ l. enclosed (type l.bytes ∷ [])) (p_type_word S name h)
+    (p_both S (upper_keyword name) (parens (token Upper)) Unseen (λ l m. m.bytes ≡ l.bytes) (λ l. type name ∷ []) (λ l. enclosed (type l.bytes ∷ [])) (p_type_word S name h)
     (p_parens S (token Upper) (λ l m. m.bytes ≡ l.bytes) (λ l. type l.bytes ∷ []) (p_upper S)))
 
 abbrev pub Create : G Command
-Create = mapped (λ v. command.CreateModel v.1 v.0.at) (type_word (codes "CreateModel") ⨾ parens model_form)
+Create = mapped (λ v. command.CreateModel v.1 v.0.at) (upper_keyword (codes "CreateModel") ⨾ parens model_form)
 
 abbrev pub one_line : ModelDef → List Lexeme
 one_line = model_lexemes (λ xs. items_lexemes xs ++ brace_close ∷ [])
 
-p_create : (S : Pieces) → Knows S → Prints S Create AsCommand command_lexemes
-p_create S know =
-    p_mapped S (λ v. command.CreateModel v.1 v.0.at) (type_word (codes "CreateModel") ⨾ parens model_form) (λ v w. Unseen v.0 w.0 × AsModel v.1 w.1)
+p_create : (S : Pieces) → Knows S → Calm S → Prints S Create AsCommand command_lexemes
+p_create S know calm =
+    p_mapped S (λ v. command.CreateModel v.1 v.0.at) (upper_keyword (codes "CreateModel") ⨾ parens model_form) (λ v w. Unseen v.0 w.0 × AsModel v.1 w.1)
     (λ v. type (codes "CreateModel") ∷ [] ++ enclosed (one_line v.1)) AsCommand command_lexemes (λ v w r. ap (λ z. command.CreateModel z 0) r.1)
     (λ v. ap (λ z. type (codes "CreateModel") ∷ at k.ParenOpen (sign_of k.ParenOpen) ∷ z)
     (lexemes_append (spelled_model v.1) (mark.sign k.ParenClose ∷ []) ∙ ap (λ (z : List Lexeme). z ++ close) (flat_marks v.1)))
-    (p_both S (type_word (codes "CreateModel")) (parens model_form) Unseen AsModel (λ l. type (codes "CreateModel") ∷ []) (λ x. enclosed (one_line x))
+    (p_both S (upper_keyword (codes "CreateModel")) (parens model_form) Unseen AsModel (λ l. type (codes "CreateModel") ∷ []) (λ x. enclosed (one_line x))
     (p_type_word S (codes "CreateModel") (upper_word S (codes "CreateModel") refl refl refl))
-    (p_parens S model_form AsModel one_line (p_model S know (λ xs. items_lexemes xs ++ brace_close ∷ []) (p_fields_flat S know))))
+    (p_parens S model_form AsModel one_line (without S model_form (p_model 0 S know calm (λ xs. items_lexemes xs ++ brace_close ∷ []) (p_fields_flat S know calm)))))
 
-pub p_command : (S : Pieces) → Knows S → Prints S command_form AsCommand command_lexemes
+pub p_command : (S : Pieces) → Knows S → Calm S → Prints S command_form AsCommand command_lexemes
 unfolding command_form
-p_command S know =
+p_command S know calm =
     let delete = named_command (codes "DeleteModel") command.DeleteModel in
     let add = named_command (codes "AddStatic") command.AddStatic in
     let remove = named_command (codes "RemoveStatic") command.RemoveStatic in
     let principal = named_command (codes "AddPrincipal") command.AddPrincipal in
-    p_either S Create (either delete (either add (either remove (either principal model_command)))) AsCommand command_lexemes (p_create S know)
+    p_either S Create (either delete (either add (either remove (either principal model_command)))) AsCommand command_lexemes (p_create S know calm)
     (p_either S delete (either add (either remove (either principal model_command))) AsCommand command_lexemes
     (p_naming S (codes "DeleteModel") command.DeleteModel (upper_word S (codes "DeleteModel") refl refl refl) (λ l m i j r. ap (λ z. command.DeleteModel z 0) (name_as m l r)) (λ l i. refl))
     (p_either S add (either remove (either principal model_command)) AsCommand command_lexemes
@@ -428,10 +431,10 @@ AsScript x y = stripped_script y ≡ stripped_script x
 abbrev pub made_script : List Command → Script
 made_script xs = record { commands = xs }
 
-pub p_script : (S : Pieces) → Knows S → Prints S script_form AsScript (λ x. lexemes_of_marks (spelled_script x))
+pub p_script : (S : Pieces) → Knows S → Calm S → Prints S script_form AsScript (λ x. lexemes_of_marks (spelled_script x))
 unfolding script_form
-p_script S know =
+p_script S know calm =
     p_mapped S made_script (each (AtMost most_commands TooManyCommands) command_form) (Same AsCommand) (flat command_lexemes) AsScript (λ x. lexemes_of_marks (spelled_script x))
     (λ v w r. ap made_script (same_map stripped_command v w r))
     (λ v. flat_lexemes command_line command_lexemes (λ x. lexemes_append (spelled_command x) (mark.newline ∷ []) ∙ append-nil (command_lexemes x)) v)
-    (p_each S (AtMost most_commands TooManyCommands) command_form AsCommand command_lexemes (p_command S know))
+    (p_each S (AtMost most_commands TooManyCommands) command_form AsCommand command_lexemes (p_command S know calm))

@@ -11,9 +11,12 @@ pub mod ElsewhereTexts
 pub mod Compounds
 pub mod ExprForms
 pub mod ExprRule
+pub mod Equal
 pub mod Fusion
+pub mod LastCommas
 pub mod Layers
 pub mod Literals
+pub mod ModelCommas
 pub mod ModelForms
 pub mod More
 pub mod Neat

@@ -1,5 +1,5 @@
 -- What is printed of models and specifications spells them.
-use Rattle.std.proofs.Common.{◌≡◌, ◌≤◌, ◌⊎◌, inl, inr, ℕ, Bool, true, false, List, [], ◌∷◌, ◌++◌, map, codes, refl, sym, ◌∙◌, ap, subst, append_assoc}
+use Rattle.std.proofs.Common.{◌≡◌, ◌≤◌, ◌+◌, ◌⊎◌, inl, inr, ℕ, arith, length, Bool, true, false, List, [], ◌∷◌, ◌++◌, map, codes, refl, sym, ◌∙◌, ap, subst, append_assoc}
 use Rattle.std.specs.List.{flat_map}
 use Rattle.sc_lexer.specs.declared.token.TokenKind.TheVariants as k
 use Rattle.sc_lexer.specs.Lexeme.{Lexeme, sign_of}
@@ -9,9 +9,9 @@ use Rattle.sc_tree.specs.declared.policies.Policy.{Policy}
 use Rattle.sc_tree.specs.declared.models.FieldDef.{FieldDef}
 use Rattle.sc_tree.specs.declared.models.ModelDef.{ModelDef}
 use Rattle.sc_tree.specs.declared.models.Spec.{Spec}
-use Rattle.sc_tree.specs.Forms.{AtMost, TooManyModels, TooManyStatics, Spells, IsToken, ◌then◌, Sign, Word, Upper, token, each}
+use Rattle.sc_tree.specs.Forms.{AtMost, TooManyModels, TooManyStatics, Spells, SpellsEach, IsToken, same_kind, ◌then◌, Sign, Word, Upper, token, each}
 use Rattle.sc_tree.specs.ExprGrammar.{◌⨾◌, behind, keyword, named, sign}
-use Rattle.sc_tree.specs.Grammar.{field_form, fields_form, model_form, model_head, most_fields, most_models, most_statics, right, spec_form, static_form}
+use Rattle.sc_tree.specs.Grammar.{base_form, field_rights, plain_type, policy_form, set_type, field_form, fields_form, model_form, model_head, most_fields, most_models, most_statics, right, spec_form, static_form}
 use Rattle.sc_tree.specs.Stripped.{stripped_field, stripped_model, stripped_name, stripped_policy, stripped_spec}
 use Rattle.sc_print.specs.Exprs.{joined}
 use Rattle.sc_print.specs.Models.{entry_line, field_line, model_lines, principal_mark, spelled_field, spelled_model, spelled_spec, static_line}
@@ -19,10 +19,11 @@ use Rattle.sc_print.specs.Models as model
 use Rattle.sc_print.specs.Marks.{Mark, lexemes_of_marks}
 use Rattle.sc_print.specs.Marks as mark
 use Rattle.sc_spelling.proofs.Canonical as c
-use Rattle.sc_spelling.proofs.Canonical.{AreGood, Canonical, Same, flat, moved, good_back, good_front}
+use Rattle.sc_spelling.proofs.Canonical.{AreGood, Canonical, Same, each_same, flat, moved, good_back, good_front, size_of, size_one}
 use Rattle.sc_spelling.proofs.ExprForms.{name_as}
+use Rattle.sc_spelling.proofs.LastCommas.{Calm, Facts, Silent, behind_silent, both_facts, each_facts, each_keeps, ends, facts, keeps, kinds, lasts, lasts_short, not_last, silent, silent_list, token_facts, token_keeps, two_keeps}
 use Rattle.sc_spelling.proofs.PolicyForms.{AsField, AsName, AsPolicy, comma, field_lexemes, p_field, p_right, right_lexemes, type, word}
-use Rattle.sc_spelling.proofs.Printed.{Again, Prints, again, each_again, p_behind, p_both, p_each, p_mapped, p_upper, same_length}
+use Rattle.sc_spelling.proofs.Printed.{Prints, PrintsTo, Within, counted, each_more, p_behind, p_behind_to, p_both_to, p_each, p_mapped, p_mapped_to, p_upper, same_length, within_count}
 use Rattle.sc_spelling.proofs.Ranks.{lexemes_append}
 use Rattle.sc_spelling.proofs.SetForms.{joined_lexemes, same_map}
 use Rattle.sc_spelling.proofs.SetRanks.{Knows}
@@ -40,10 +41,11 @@ brace_close = at k.BraceClose (sign_of k.BraceClose)
 abbrev pub Behind : Pieces → FieldDef → List Piece → Type 0
 Behind S x ls = (IsToken (Sign k.Comma) then Spells S field_form x) ls
 
-behind_again : (S : Pieces) → Knows S → (x : FieldDef) (ls : List Piece) → AreGood ls → Behind S x ls → Again (AsField x) (Behind S) (comma ∷ field_lexemes x)
+behind_again : (S : Pieces) → Knows S → (x : FieldDef) (ls : List Piece) → AreGood ls → Behind S x ls → Canonical (AsField x) (Behind S) (comma ∷ field_lexemes x) (length ls)
 behind_again S know x ls good (a, b, g, l, d) =
-    again (moved (λ v. v.1) (λ v r. r.1) (λ v ks (p, q, h, (ci, ca), e). (p, q, h, (v.0, ci, ca), e))
-    (c.both (comma_token S) (p_field S know x b (good_back ls a b g good) d).canon))
+    c.rewritten refl (omega (arith, size_of ls a b g, size_one a l.0 l.1))
+    (moved (λ v. v.1) (λ v r. r.1) (λ v ks (p, q, h, (ci, ca), e). (p, q, h, (v.0, ci, ca), e))
+    (c.both (comma_token S) (p_field S know x b (good_back ls a b g good) d)))
 
 abbrev pub items_lexemes : List FieldDef → List Lexeme
 items_lexemes = flat (λ x. comma ∷ field_lexemes x)
@@ -59,20 +61,48 @@ closed_behind : (S : Pieces) → Canonical Any (End S) (comma ∷ brace_close �
 closed_behind S =
     moved (λ v. v.1) (λ v r. tt) (λ v ks (p, q, h, (ci, ca), e). inl (p, q, h, (v.0, ci, ca), e)) (c.both (comma_token S) (brace_close_token S))
 
-p_fields : (S : Pieces) → Knows S → (m : List Lexeme) (n : ℕ) → Canonical Any (End S) m n → Prints S fields_form (Same AsField) (λ xs. items_lexemes xs ++ m)
+-- a closing brace at least, which a comma may stand before
+end_long : (S : Pieces) (x : Piece) (ls : List Piece) → End S x ls → 1 + lasts (kinds ls) ≤ length ls
+end_long S x ls (inl (a, b, g, l, t)) =
+    let e : ls ≡ l.0 ∷ (x ∷ []) = g ∙ ap (λ z. z ++ b) l.1 ∙ ap (λ z. l.0 ∷ z) t.0 in
+    let short : lasts (kinds (l.0 ∷ (x ∷ []))) ≤ 1 = lasts_short l.0.kind (x.kind ∷ []) in
+    let same : lasts (kinds ls) ≡ lasts (kinds (l.0 ∷ (x ∷ []))) = ap (λ z. lasts (kinds z)) e in
+    let long : length ls ≡ 2 = ap length e in
+    omega (arith, short, same, long)
+end_long S x ls (inr t) =
+    let short : lasts (kinds (x ∷ [])) ≤ 0 = lasts_short x.kind [] in
+    let same : lasts (kinds ls) ≡ lasts (kinds (x ∷ [])) = ap (λ z. lasts (kinds z)) t.0 in
+    omega (arith, short, same, size_one ls x t.0)
+
+-- the fields before the end
+abbrev pub behind_facts : Facts
+behind_facts = both_facts (token_facts (Sign k.Comma)) (facts field_form)
+
+fields_silent : (S : Pieces) → Calm S → (xs : List FieldDef) (ls : List Piece) → SpellsEach (Behind S) xs ls → (lasts (kinds ls) ≡ 0) × (ends (kinds ls) ≡ false)
+unfolding same_kind base_form set_type plain_type field_rights field_form policy_form
+fields_silent S calm xs ls h =
+    silent_list (each_facts behind_facts) (kinds ls) refl refl
+    (each_keeps behind_facts (Behind S)
+    (λ x r e. two_keeps (token_facts (Sign k.Comma)) (facts field_form) r (λ t (l, is, b). token_keeps (Sign k.Comma) l t is b) (λ t b. keeps S calm field_form x t b) e) xs ls h)
+
+p_fields : (n : ℕ) (S : Pieces) → Knows S → Calm S → (m : List Lexeme) → Canonical Any (End S) m (n + 1) → PrintsTo n S fields_form (Same AsField) (λ xs. items_lexemes xs ++ m)
 unfolding fields_form
-p_fields S know m n h xs ls good (v, is, ((p, q, g, items, end), few)) =
-    let a = each_again S (Behind S) AsField (λ x. comma ∷ field_lexemes x) (behind_again S know) v.0 p (good_front ls p q g good) items in
-    subst (λ zs. Again (Same AsField zs) (Spells S fields_form) (items_lexemes zs ++ m)) (sym is)
-    (again (c.found
-    (λ w ks r d. (w.0, r.0, (w, refl, (d, subst (λ z. z ≤ most_fields) (sym (same_length AsField v.0 w.0 r.0)) few))))
-    (c.both a.canon h)))
+p_fields n S know calm m h xs ls good (v, is, ((p, q, g, items, end), few)) =
+    let a = each_same AsField (Behind S) (λ x. comma ∷ field_lexemes x) (behind_again S know) v.0 p (good_front ls p q g good) items in
+    let silent_fields = fields_silent S calm v.0 p items in
+    subst (λ zs. Within (Same AsField zs) (Spells S fields_form) (items_lexemes zs ++ m) n ls) (sym is)
+    (record {
+      most = length p + (n + 1);
+      canon = c.found (λ w ks r d. (w.0, r.0, (w, refl, (d, subst (λ z. z ≤ most_fields) (sym (same_length AsField v.0 w.0 r.0)) few)))) (c.both a h);
+      few = omega (arith, size_of ls p q g, behind_silent ls p q g silent_fields, end_long S v.1 q end);
+    })
 
-pub p_fields_flat : (S : Pieces) → Knows S → Prints S fields_form (Same AsField) (λ xs. items_lexemes xs ++ brace_close ∷ [])
-p_fields_flat S know = p_fields S know (brace_close ∷ []) 1 (closed S)
+pub p_fields_flat : (S : Pieces) → Knows S → Calm S → PrintsTo 0 S fields_form (Same AsField) (λ xs. items_lexemes xs ++ brace_close ∷ [])
+p_fields_flat S know calm = p_fields 0 S know calm (brace_close ∷ []) (closed S)
 
-pub p_fields_lines : (S : Pieces) → Knows S → Prints S fields_form (Same AsField) (λ xs. items_lexemes xs ++ comma ∷ brace_close ∷ [])
-p_fields_lines S know = p_fields S know (comma ∷ brace_close ∷ []) 2 (closed_behind S)
+-- with a comma at the end, which may be left out
+pub p_fields_lines : (S : Pieces) → Knows S → Calm S → PrintsTo 1 S fields_form (Same AsField) (λ xs. items_lexemes xs ++ comma ∷ brace_close ∷ [])
+p_fields_lines S know calm = p_fields 1 S know calm (comma ∷ brace_close ∷ []) (closed_behind S)
 
 -- ---- models
 
@@ -84,13 +114,15 @@ SameHead v w = w.0 ≡ v.0
 
 p_head : (S : Pieces) → Prints S model_head SameHead (λ v. head_lexemes v.0)
 unfolding model_head
-p_head S x ls good (inl (v, is, d)) =
-    subst (λ z. Again (SameHead z) (Spells S model_head) (head_lexemes z.0)) (sym is)
-    (again (moved (λ w. (true, w.0)) (λ w r. refl) (λ w ks e. inl (w, refl, e))
+p_head S x ls good (inl (v, is, (p, q, g, i, j))) =
+    subst (λ z. Canonical (SameHead z) (Spells S model_head) (head_lexemes z.0) (length ls)) (sym is)
+    (c.rewritten refl (omega (arith, size_of ls p q g, size_one p v.0 i.0, size_one q v.1 j.0))
+    (moved (λ w. (true, w.0)) (λ w r. refl) (λ w ks e. inl (w, refl, e))
     (c.both (lower_word S (codes "principal") refl refl refl) (lower_word S (codes "model") refl refl refl))))
 p_head S x ls good (inr (l, is, d)) =
-    subst (λ z. Again (SameHead z) (Spells S model_head) (head_lexemes z.0)) (sym is)
-    (again (moved (λ w. (false, w)) (λ w r. refl) (λ w ks e. inr (w, refl, e)) (lower_word S (codes "model") refl refl refl)))
+    subst (λ z. Canonical (SameHead z) (Spells S model_head) (head_lexemes z.0) (length ls)) (sym is)
+    (c.rewritten refl (omega (arith, size_one ls l d.0))
+    (moved (λ w. (false, w)) (λ w r. refl) (λ w ks e. inr (w, refl, e)) (lower_word S (codes "model") refl refl refl)))
 
 abbrev pub AsModel : ModelDef → ModelDef → Type 0
 AsModel x y = stripped_model y ≡ stripped_model x
@@ -112,28 +144,29 @@ abbrev pub model_lexemes : (List FieldDef → List Lexeme) → ModelDef → List
 model_lexemes m x =
     head_lexemes x.principal ++ (type x.name.name ∷ brace_open ∷ (right_lexemes (codes "create") x.create ++ comma ∷ (right_lexemes (codes "delete") x.delete ++ m x.fields)))
 
-pub p_model : (S : Pieces) → Knows S → (m : List FieldDef → List Lexeme) → Prints S fields_form (Same AsField) m → Prints S model_form AsModel (model_lexemes m)
-unfolding model_form
-p_model S know m fields =
-    p_mapped S (λ v. made_model v.0.0 (named v.1.0) v.1.1.0 v.1.1.1.0 v.1.1.1.1 v.0.1.at)
+pub p_model : (n : ℕ) (S : Pieces) → Knows S → Calm S → (m : List FieldDef → List Lexeme) → PrintsTo n S fields_form (Same AsField) m → PrintsTo n S model_form AsModel (model_lexemes m)
+unfolding same_kind base_form set_type plain_type field_rights field_form policy_form model_form model_head
+p_model n S know calm m fields =
+    p_mapped_to n S (λ v. made_model v.0.0 (named v.1.0) v.1.1.0 v.1.1.1.0 v.1.1.1.1 v.0.1.at)
     (model_head ⨾ (token Upper ⨾ behind (sign k.BraceOpen) (right (codes "create") ⨾ (behind (sign k.Comma) (right (codes "delete")) ⨾ fields_form))))
     (λ v w. SameHead v.0 w.0 × ((w.1.0.bytes ≡ v.1.0.bytes) × (AsPolicy v.1.1.0 w.1.1.0 × (AsPolicy v.1.1.1.0 w.1.1.1.0 × Same AsField v.1.1.1.1 w.1.1.1.1))))
     (λ v. head_lexemes v.0.0 ++ (type v.1.0.bytes ∷ [] ++ brace_open ∷ (right_lexemes (codes "create") v.1.1.0 ++ (comma ∷ right_lexemes (codes "delete") v.1.1.1.0 ++ m v.1.1.1.1))))
     AsModel (model_lexemes m)
     (λ v w r. model_as v.0.0 w.0.0 w.1.0 v.1.0 v.1.1.0 w.1.1.0 v.1.1.1.0 w.1.1.1.0 v.1.1.1.1 w.1.1.1.1 v.0.1.at w.0.1.at r.0 r.1.0 r.1.1.0 r.1.1.1.0 r.1.1.1.1) (λ v. refl)
-    (p_both S model_head (token Upper ⨾ behind (sign k.BraceOpen) (right (codes "create") ⨾ (behind (sign k.Comma) (right (codes "delete")) ⨾ fields_form)))
+    (p_both_to n S model_head (token Upper ⨾ behind (sign k.BraceOpen) (right (codes "create") ⨾ (behind (sign k.Comma) (right (codes "delete")) ⨾ fields_form)))
     SameHead (λ v w. (w.0.bytes ≡ v.0.bytes) × (AsPolicy v.1.0 w.1.0 × (AsPolicy v.1.1.0 w.1.1.0 × Same AsField v.1.1.1 w.1.1.1))) (λ v. head_lexemes v.0)
-    (λ v. type v.0.bytes ∷ [] ++ brace_open ∷ (right_lexemes (codes "create") v.1.0 ++ (comma ∷ right_lexemes (codes "delete") v.1.1.0 ++ m v.1.1.1))) (p_head S)
-    (p_both S (token Upper) (behind (sign k.BraceOpen) (right (codes "create") ⨾ (behind (sign k.Comma) (right (codes "delete")) ⨾ fields_form)))
+    (λ v. type v.0.bytes ∷ [] ++ brace_open ∷ (right_lexemes (codes "create") v.1.0 ++ (comma ∷ right_lexemes (codes "delete") v.1.1.0 ++ m v.1.1.1)))
+    (silent S calm model_head refl refl) (p_head S)
+    (p_both_to n S (token Upper) (behind (sign k.BraceOpen) (right (codes "create") ⨾ (behind (sign k.Comma) (right (codes "delete")) ⨾ fields_form)))
     (λ l n. n.bytes ≡ l.bytes) (λ v w. AsPolicy v.0 w.0 × (AsPolicy v.1.0 w.1.0 × Same AsField v.1.1 w.1.1)) (λ l. type l.bytes ∷ [])
-    (λ v. brace_open ∷ (right_lexemes (codes "create") v.0 ++ (comma ∷ right_lexemes (codes "delete") v.1.0 ++ m v.1.1))) (p_upper S)
-    (p_behind S (Sign k.BraceOpen) brace_open (right (codes "create") ⨾ (behind (sign k.Comma) (right (codes "delete")) ⨾ fields_form))
+    (λ v. brace_open ∷ (right_lexemes (codes "create") v.0 ++ (comma ∷ right_lexemes (codes "delete") v.1.0 ++ m v.1.1))) (silent S calm (token Upper) refl refl) (p_upper S)
+    (p_behind_to n S (Sign k.BraceOpen) brace_open (right (codes "create") ⨾ (behind (sign k.Comma) (right (codes "delete")) ⨾ fields_form))
     (λ v w. AsPolicy v.0 w.0 × (AsPolicy v.1.0 w.1.0 × Same AsField v.1.1 w.1.1))
-    (λ v. right_lexemes (codes "create") v.0 ++ (comma ∷ right_lexemes (codes "delete") v.1.0 ++ m v.1.1)) (brace_open_token S)
-    (p_both S (right (codes "create")) (behind (sign k.Comma) (right (codes "delete")) ⨾ fields_form) AsPolicy (λ v w. AsPolicy v.0 w.0 × Same AsField v.1 w.1)
-    (right_lexemes (codes "create")) (λ v. comma ∷ right_lexemes (codes "delete") v.0 ++ m v.1) (p_right S know (codes "create") (lower_word S (codes "create") refl refl refl))
-    (p_both S (behind (sign k.Comma) (right (codes "delete"))) fields_form AsPolicy (Same AsField) (λ x. comma ∷ right_lexemes (codes "delete") x) m
-    (p_behind S (Sign k.Comma) comma (right (codes "delete")) AsPolicy (right_lexemes (codes "delete")) (comma_token S)
+    (λ v. right_lexemes (codes "create") v.0 ++ (comma ∷ right_lexemes (codes "delete") v.1.0 ++ m v.1.1)) (silent S calm (token (Sign k.BraceOpen)) refl refl) (brace_open_token S)
+    (p_both_to n S (right (codes "create")) (behind (sign k.Comma) (right (codes "delete")) ⨾ fields_form) AsPolicy (λ v w. AsPolicy v.0 w.0 × Same AsField v.1 w.1)
+    (right_lexemes (codes "create")) (λ v. comma ∷ right_lexemes (codes "delete") v.0 ++ m v.1) (silent S calm (right (codes "create")) refl refl) (p_right S know (codes "create") (lower_word S (codes "create") refl refl refl))
+    (p_both_to n S (behind (sign k.Comma) (right (codes "delete"))) fields_form AsPolicy (Same AsField) (λ x. comma ∷ right_lexemes (codes "delete") x) m
+    (silent S calm (behind (sign k.Comma) (right (codes "delete"))) refl refl) (p_behind S (Sign k.Comma) comma (right (codes "delete")) AsPolicy (right_lexemes (codes "delete")) (comma_token S)
     (p_right S know (codes "delete") (lower_word S (codes "delete") refl refl refl))) fields)))))
 
 -- ---- what models print
@@ -217,16 +250,35 @@ made_spec s m = record { statics = s; models = m }
 abbrev pub lines_lexemes : ModelDef → List Lexeme
 lines_lexemes = model_lexemes (λ xs. items_lexemes xs ++ comma ∷ brace_close ∷ [])
 
-pub p_spec : (S : Pieces) → Knows S → Prints S spec_form AsSpec (λ x. lexemes_of_marks (spelled_spec x))
+-- a model does not end with a comma
+model_quiet : (S : Pieces) → Calm S → (x : ModelDef) (ls : List Piece) → Spells S model_form x ls → ends (kinds ls) ≡ false
+unfolding same_kind base_form set_type plain_type field_rights field_form policy_form fields_form model_form model_head
+model_quiet S calm x ls h = not_last (facts model_form) (kinds ls) refl (keeps S calm model_form x ls h)
+
+statics_silent : (S : Pieces) → Calm S → Silent S (each (AtMost most_statics TooManyStatics) static_form)
+unfolding same_kind static_form
+statics_silent S calm = silent S calm (each (AtMost most_statics TooManyStatics) static_form) refl refl
+
+-- in a piece more for each model at most
+pub p_spec : (S : Pieces) → Knows S → Calm S → (x : Spec) (ls : List Piece) → AreGood ls → Spells S spec_form x ls
+    → Within (AsSpec x) (Spells S spec_form) (lexemes_of_marks (spelled_spec x)) (length x.models) ls
 unfolding spec_form
-p_spec S know =
-    p_mapped S (λ v. made_spec v.0 v.1) (each (AtMost most_statics TooManyStatics) static_form ⨾ each (AtMost most_models TooManyModels) model_form)
-    (λ v w. Same AsName v.0 w.0 × Same AsModel v.1 w.1) (λ v. flat static_lexemes v.0 ++ flat lines_lexemes v.1) AsSpec (λ x. lexemes_of_marks (spelled_spec x))
-    (λ v w r. ap (λ z. made_spec z (map stripped_model w.1)) (same_map stripped_name v.0 w.0 r.0) ∙ ap (λ z. made_spec (map stripped_name v.0) z) (same_map stripped_model v.1 w.1 r.1))
-    (λ v. lexemes_append (flat_map static_line v.0) (flat_map model_lines v.1)
+p_spec S know calm x ls good (v, is, (p, q, g, (statics, few), (models, some))) =
+    let one = p_each S (AtMost most_statics TooManyStatics) static_form AsName static_lexemes (p_static S) v.0 p (good_front ls p q g good) (statics, few) in
+    let each = each_more (Spells S model_form) AsModel lines_lexemes (p_model 1 S know calm (λ xs. items_lexemes xs ++ comma ∷ brace_close ∷ []) (p_fields_lines S know calm))
+    (model_quiet S calm) v.1 q (good_back ls p q g good) models in
+    let other = counted (λ ys ks r e. (e, within_count (AtMost most_models TooManyModels) (length v.1) (length ys) (same_length AsModel v.1 ys r) some)) each.canon in
+    let printed : lexemes_of_marks (spelled_spec (made_spec v.0 v.1)) ≡ flat static_lexemes v.0 ++ flat lines_lexemes v.1 =
+    lexemes_append (flat_map static_line v.0) (flat_map model_lines v.1)
     ∙ ap (λ (z : List Lexeme). z ++ lexemes_of_marks (flat_map model_lines v.1)) (flat_lexemes static_line static_lexemes (λ x. refl) v.0)
-    ∙ ap (λ z. flat static_lexemes v.0 ++ z) (flat_lexemes model_lines lines_lexemes lines_marks v.1))
-    (p_both S (each (AtMost most_statics TooManyStatics) static_form) (each (AtMost most_models TooManyModels) model_form) (Same AsName) (Same AsModel) (flat static_lexemes) (flat lines_lexemes)
-    (p_each S (AtMost most_statics TooManyStatics) static_form AsName static_lexemes (p_static S))
-    (p_each S (AtMost most_models TooManyModels) model_form AsModel lines_lexemes
-    (p_model S know (λ xs. items_lexemes xs ++ comma ∷ brace_close ∷ []) (p_fields_lines S know))))
+    ∙ ap (λ z. flat static_lexemes v.0 ++ z) (flat_lexemes model_lines lines_lexemes lines_marks v.1) in
+    subst (λ z. Within (AsSpec z) (Spells S spec_form) (lexemes_of_marks (spelled_spec z)) (length z.models) ls) (sym is)
+    (record {
+      most = length p + each.most;
+      canon =
+          c.rewritten printed (omega arith)
+          (moved (λ w. made_spec w.0 w.1)
+          (λ w r. ap (λ z. made_spec z (map stripped_model w.1)) (same_map stripped_name v.0 w.0 r.0) ∙ ap (λ z. made_spec (map stripped_name v.0) z) (same_map stripped_model v.1 w.1 r.1))
+          (λ w ks e. (w, refl, e)) (c.both one other));
+      few = omega (arith, size_of ls p q g, behind_silent ls p q g (statics_silent S calm v.0 p (statics, few)), each.few);
+    })

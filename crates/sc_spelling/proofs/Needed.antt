@@ -29,7 +29,7 @@ at_most R F ws n h =
     let short : length (placed ws) ≤ n = r.short in
     omega (arith, placed_length ws)
 
-policy_same : (x : Policy) → spelled_policy (stripped_policy x) ≡ spelled_policy x
+pub policy_same : (x : Policy) → spelled_policy (stripped_policy x) ≡ spelled_policy x
 policy_same (policy.Everyone at) = refl
 policy_same (policy.Nobody at) = refl
 policy_same (policy.Fun x set) = ap (λ z. lambda x.name z.marks) (set_same set)

@@ -13,7 +13,7 @@ use Rattle.sc_tree.specs.declared.models.Ty.TheVariants as ty
 use Rattle.sc_tree.specs.declared.models.FieldDef.{FieldDef}
 use Rattle.sc_tree.specs.declared.exprs.SetExpr.{SetExpr}
 use Rattle.sc_tree.specs.Forms.{Spells, Sign, Word, Upper, Lower, token, either, mapped, part, within}
-use Rattle.sc_tree.specs.ExprGrammar.{Set, ◌⨾◌, behind, named, parens, sign, type_word}
+use Rattle.sc_tree.specs.ExprGrammar.{Set, ◌⨾◌, behind, named, parens, sign, upper_keyword}
 use Rattle.sc_tree.specs.Grammar.{base_form, field_form, field_of, field_rights, most_tokens, plain_type, policy_form, right, set_type}
 use Rattle.sc_tree.specs.Stripped.{stripped_base, stripped_field, stripped_name, stripped_policy, stripped_set, stripped_type}
 use Rattle.sc_print.specs.Models.{spelled_base, spelled_field, spelled_policy, spelled_type}
@@ -23,7 +23,7 @@ use Rattle.sc_print.specs.Marks as mark
 use Rattle.sc_spelling.proofs.Canonical as c
 use Rattle.sc_spelling.proofs.Canonical.{AreGood, Canonical, moved, good_back, good_front, good_one, size_of, size_one}
 use Rattle.sc_spelling.proofs.ExprForms.{name_as}
-use Rattle.sc_spelling.proofs.Printed.{Prints, again, p_behind, p_both, p_braces, p_either, p_lower, p_mapped, p_parens, p_token, p_upper, within_c}
+use Rattle.sc_spelling.proofs.Printed.{Prints, p_behind, p_both, p_braces, p_either, p_lower, p_mapped, p_parens, p_token, p_upper, within_c}
 use Rattle.sc_spelling.proofs.Ranks.{lexemes_append}
 use Rattle.sc_spelling.proofs.SetRanks.{AsSet, Knows}
 use Rattle.sc_spelling.proofs.Steps.{lambda_c}
@@ -64,7 +64,7 @@ policy_c S know x ls good (inr (inr (v, is, (p, q, g, (ni, na), (y, yis, (a, b, 
     (within_c S most_tokens (length b) (part Set) few known.1))))
 
 pub p_policy : (S : Pieces) → Knows S → Prints S policy_form AsPolicy policy_lexemes
-p_policy S know x ls good d = again (policy_c S know x ls good d)
+p_policy S know x ls good d = policy_c S know x ls good d
 
 abbrev pub colon : Lexeme
 colon = at k.Colon (sign_of k.Colon)
@@ -110,7 +110,7 @@ p_id S = p_parens S (mapped named (token Upper)) AsName upper_lexemes (p_name S)
 abbrev pub Unseen : Piece → Piece → Type 0
 Unseen l m = Unit {0}
 
-pub p_type_word : (S : Pieces) (name : List ℕ) → Canonical Any (Tok S (Word k.Upper name)) (type name ∷ []) 1 → Prints S (type_word name) Unseen (λ l. type name ∷ [])
+pub p_type_word : (S : Pieces) (name : List ℕ) → Canonical Any (Tok S (Word k.Upper name)) (type name ∷ []) 1 → Prints S (upper_keyword name) Unseen (λ l. type name ∷ [])
 p_type_word S name h = p_token S (Word k.Upper name) (type name) h
 
 abbrev pub AsBase : Base → Base → Type 0
@@ -122,23 +122,23 @@ base_lexemes x = lexemes_of_marks (spelled_base x)
 pub p_base : (S : Pieces) → Prints S base_form AsBase base_lexemes
 unfolding base_form
 p_base S x ls good (inl d) =
-    let a = p_mapped S (λ l. base.Bool l.at) (type_word (codes "Bool")) Unseen (λ l. type (codes "Bool") ∷ []) AsBase base_lexemes (λ v w r. refl) (λ v. refl)
+    let a = p_mapped S (λ l. base.Bool l.at) (upper_keyword (codes "Bool")) Unseen (λ l. type (codes "Bool") ∷ []) AsBase base_lexemes (λ v w r. refl) (λ v. refl)
     (p_type_word S (codes "Bool") (upper_word S (codes "Bool") refl refl refl)) x ls good d in
-    again (moved (λ y. y) (λ y r. r) (λ y ks e. inl e) a.canon)
+    moved (λ y. y) (λ y r. r) (λ y ks e. inl e) a
 p_base S x ls good (inr (inl d)) =
-    let a = p_mapped S (λ l. base.Int l.at) (type_word (codes "Int")) Unseen (λ l. type (codes "Int") ∷ []) AsBase base_lexemes (λ v w r. refl) (λ v. refl)
+    let a = p_mapped S (λ l. base.Int l.at) (upper_keyword (codes "Int")) Unseen (λ l. type (codes "Int") ∷ []) AsBase base_lexemes (λ v w r. refl) (λ v. refl)
     (p_type_word S (codes "Int") (upper_word S (codes "Int") refl refl refl)) x ls good d in
-    again (moved (λ y. y) (λ y r. r) (λ y ks e. inr (inl e)) a.canon)
+    moved (λ y. y) (λ y r. r) (λ y ks e. inr (inl e)) a
 p_base S x ls good (inr (inr (inl d))) =
-    let a = p_mapped S (λ l. base.Text l.at) (type_word (codes "Text")) Unseen (λ l. type (codes "Text") ∷ []) AsBase base_lexemes (λ v w r. refl) (λ v. refl)
+    let a = p_mapped S (λ l. base.Text l.at) (upper_keyword (codes "Text")) Unseen (λ l. type (codes "Text") ∷ []) AsBase base_lexemes (λ v w r. refl) (λ v. refl)
     (p_type_word S (codes "Text") (upper_word S (codes "Text") refl refl refl)) x ls good d in
-    again (moved (λ y. y) (λ y r. r) (λ y ks e. inr (inr (inl e))) a.canon)
+    moved (λ y. y) (λ y r. r) (λ y ks e. inr (inr (inl e))) a
 p_base S x ls good (inr (inr (inr d))) =
-    let a = p_mapped S (λ v. base.Id v.1 v.0.at) (type_word (codes "Id") ⨾ parens (mapped named (token Upper))) (λ v w. Unseen v.0 w.0 × AsName v.1 w.1)
+    let a = p_mapped S (λ v. base.Id v.1 v.0.at) (upper_keyword (codes "Id") ⨾ parens (mapped named (token Upper))) (λ v w. Unseen v.0 w.0 × AsName v.1 w.1)
     (λ v. type (codes "Id") ∷ [] ++ enclosed (upper_lexemes v.1)) AsBase base_lexemes (λ v w r. ap (λ z. base.Id z 0) r.1) (λ v. refl)
-    (p_both S (type_word (codes "Id")) (parens (mapped named (token Upper))) Unseen AsName (λ l. type (codes "Id") ∷ []) (λ y. enclosed (upper_lexemes y))
+    (p_both S (upper_keyword (codes "Id")) (parens (mapped named (token Upper))) Unseen AsName (λ l. type (codes "Id") ∷ []) (λ y. enclosed (upper_lexemes y))
     (p_type_word S (codes "Id") (upper_word S (codes "Id") refl refl refl)) (p_id S)) x ls good d in
-    again (moved (λ y. y) (λ y r. r) (λ y ks e. inr (inr (inr e))) a.canon)
+    moved (λ y. y) (λ y r. r) (λ y ks e. inr (inr (inr e))) a
 
 abbrev pub AsType : Ty → Ty → Type 0
 AsType x y = stripped_type y ≡ stripped_type x
@@ -149,27 +149,27 @@ type_lexemes x = lexemes_of_marks (spelled_type x)
 pub p_set_type : (S : Pieces) → Prints S set_type AsType type_lexemes
 unfolding set_type
 p_set_type S =
-    p_mapped S (λ v. ty.Set v.1 v.0.at) (type_word (codes "Set") ⨾ parens (behind (type_word (codes "Id")) (parens (mapped named (token Upper)))))
+    p_mapped S (λ v. ty.Set v.1 v.0.at) (upper_keyword (codes "Set") ⨾ parens (behind (upper_keyword (codes "Id")) (parens (mapped named (token Upper)))))
     (λ v w. Unseen v.0 w.0 × AsName v.1 w.1) (λ v. type (codes "Set") ∷ [] ++ enclosed (type (codes "Id") ∷ enclosed (upper_lexemes v.1))) AsType type_lexemes
     (λ v w r. ap (λ z. ty.Set z 0) r.1) (λ v. refl)
-    (p_both S (type_word (codes "Set")) (parens (behind (type_word (codes "Id")) (parens (mapped named (token Upper))))) Unseen AsName (λ l. type (codes "Set") ∷ [])
+    (p_both S (upper_keyword (codes "Set")) (parens (behind (upper_keyword (codes "Id")) (parens (mapped named (token Upper))))) Unseen AsName (λ l. type (codes "Set") ∷ [])
     (λ y. enclosed (type (codes "Id") ∷ enclosed (upper_lexemes y))) (p_type_word S (codes "Set") (upper_word S (codes "Set") refl refl refl))
-    (p_parens S (behind (type_word (codes "Id")) (parens (mapped named (token Upper)))) AsName (λ y. type (codes "Id") ∷ enclosed (upper_lexemes y))
+    (p_parens S (behind (upper_keyword (codes "Id")) (parens (mapped named (token Upper)))) AsName (λ y. type (codes "Id") ∷ enclosed (upper_lexemes y))
     (p_behind S (Word k.Upper (codes "Id")) (type (codes "Id")) (parens (mapped named (token Upper))) AsName (λ y. enclosed (upper_lexemes y))
     (upper_word S (codes "Id") refl refl refl) (p_id S))))
 
 pub p_plain_type : (S : Pieces) → Prints S plain_type AsType type_lexemes
 unfolding plain_type
 p_plain_type S x ls good (inl d) =
-    let a = p_mapped S (λ v. ty.Opt v.1 v.0.at) (type_word (codes "Option") ⨾ parens base_form) (λ v w. Unseen v.0 w.0 × AsBase v.1 w.1)
+    let a = p_mapped S (λ v. ty.Opt v.1 v.0.at) (upper_keyword (codes "Option") ⨾ parens base_form) (λ v w. Unseen v.0 w.0 × AsBase v.1 w.1)
     (λ v. type (codes "Option") ∷ [] ++ enclosed (base_lexemes v.1)) AsType type_lexemes (λ v w r. ap (λ z. ty.Opt z 0) r.1)
     (λ v. ap (λ z. type (codes "Option") ∷ at k.ParenOpen (sign_of k.ParenOpen) ∷ z) (lexemes_append (spelled_base v.1) (mark.sign k.ParenClose ∷ [])))
-    (p_both S (type_word (codes "Option")) (parens base_form) Unseen AsBase (λ l. type (codes "Option") ∷ []) (λ y. enclosed (base_lexemes y))
+    (p_both S (upper_keyword (codes "Option")) (parens base_form) Unseen AsBase (λ l. type (codes "Option") ∷ []) (λ y. enclosed (base_lexemes y))
     (p_type_word S (codes "Option") (upper_word S (codes "Option") refl refl refl)) (p_parens S base_form AsBase base_lexemes (p_base S))) x ls good d in
-    again (moved (λ y. y) (λ y r. r) (λ y ks e. inl e) a.canon)
+    moved (λ y. y) (λ y r. r) (λ y ks e. inl e) a
 p_plain_type S x ls good (inr d) =
     let a = p_mapped S ty.Plain base_form AsBase base_lexemes AsType type_lexemes (λ v w r. ap ty.Plain r) (λ v. refl) (p_base S) x ls good d in
-    again (moved (λ y. y) (λ y r. r) (λ y ks e. inr e) a.canon)
+    moved (λ y. y) (λ y r. r) (λ y ks e. inr e) a
 
 -- ---- fields
 

@@ -27,10 +27,9 @@ use Rattle.sc_tree.specs.Grammar.{most_levels}
 use Rattle.sc_tree.specs.Texts.{IsTextOf}
 use Rattle.sc_print.specs.Marks.{Mark, lexemes_of_marks, text_of_marks}
 use Rattle.sc_spelling.specs.Reprinted.{IsPrinted}
-use Rattle.sc_spelling.proofs.Canonical.{AreGood, lexemes}
+use Rattle.sc_spelling.proofs.Canonical.{AreGood, Canonical, lexemes}
 use Rattle.sc_spelling.proofs.Literals.{cut_after, cut_before}
 use Rattle.sc_spelling.proofs.Neat.{Neat}
-use Rattle.sc_spelling.proofs.Printed.{Again}
 use Rattle.sc_spelling.proofs.TextTokens.{all_parts, apart, end_blank, end_of, lexemes_are, parts_of, text_is}
 use Rattle.sc_spelling.proofs.Tokens.{and_true, ascii_utf8, both_true, is_ascii}
 
@@ -123,19 +122,19 @@ piece_lexemes text (t ∷ tokens) = ap (λ z. lexeme_of text t ∷ z) (piece_lex
 
 -- ---- the text of marks
 
-pub text_again : {A : Type 0} (f : G A) (stripped : A → A) (x : A) (marks : List Mark)
-    → Again (λ y. stripped y ≡ stripped x) (Spells (SpellsPart rule most_levels) f) (lexemes_of_marks marks) → Neat None marks
+pub text_again : {A : Type 0} (f : G A) (stripped : A → A) (x : A) (n : ℕ) (marks : List Mark)
+    → Canonical (λ y. stripped y ≡ stripped x) (Spells (SpellsPart rule most_levels) f) (lexemes_of_marks marks) n → Neat None marks
     → IsPrinted f stripped x (text_of_marks marks)
-text_again {A} f stripped x marks h neat =
+text_again {A} f stripped x n marks h neat =
     let parts = parts_of [] marks in
     let end = end_of [] marks in
-    let known = h.canon.parts in
+    let known = h.parts in
     let fine = apart [] marks None refl neat known in
     let all : All IsPart (parts_lexemes parts) = subst (All IsPart) (sym (lexemes_are [] marks)) (all_parts (lexemes_of_marks marks) known) in
     let text = text_of_lexemes end parts in
     let tokens = places 0 parts in
     let lexed : Lexes text tokens = written_lexes end (end_blank [] marks None refl neat) parts fine all in
     let of : lexemes (pieces_of text tokens) ≡ lexemes_of_marks marks = piece_lexemes text tokens ∙ written_lexemes end parts ∙ lexemes_are [] marks in
-    let r = h.canon.reads (pieces_of text tokens) of in
+    let r = h.reads (pieces_of text tokens) of in
     let same : text ≡ text_of_marks marks = text_is [] marks in
     record { tree = r.value; spells = subst (λ (z : List ℕ). IsTextOf f z r.value) same (tokens, lexed, r.spells); same = r.is }

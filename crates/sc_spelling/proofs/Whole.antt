@@ -1,11 +1,14 @@
 -- What is printed of expressions and sets spells them, at any number of levels.
-use Rattle.std.proofs.Common.{inl, inr, ℕ, zero, suc, arith, length}
+use Rattle.std.proofs.Common.{◌≡◌, inl, inr, ℕ, zero, suc, arith, length, refl, subst}
 use Rattle.sc_tree.specs.declared.exprs.Expr.{Expr}
 use Rattle.sc_tree.specs.declared.exprs.SetExpr.{SetExpr}
 use Rattle.sc_tree.specs.Levels.{SpellsPart}
-use Rattle.sc_tree.specs.ExprGrammar.{rule}
+use Rattle.sc_tree.specs.Forms.{same_kind}
+use Rattle.sc_tree.specs.ExprGrammar as e
+use Rattle.sc_tree.specs.ExprGrammar.{Part, Expression, Set, rule}
 use Rattle.sc_print.specs.Exprs.{spelled_expr, spelled_set}
 use Rattle.sc_spelling.proofs.Canonical.{moved}
+use Rattle.sc_spelling.proofs.LastCommas.{Calm, Keeps, facts, keeps, kinds, part_facts}
 use Rattle.sc_spelling.proofs.More.{level_more, spells_more}
 use Rattle.sc_spelling.proofs.Ranks.{Tight, down, form_at, tight_of}
 use Rattle.sc_spelling.proofs.SetRanks.{Firm, Knows, fields, firm_at, firm_of, set_form_at}
@@ -42,3 +45,15 @@ knows (suc n) = record {
       let t : Firm (at_level n) x (length ls) = firm_of (at_level n) 0 x (length ls) (set_rule_held (at_level n) (knows n) x ls good h) in
       (firm_more n x (length ls) t, moved (λ y. y) (λ y r. r) (λ y ks d. d) (firm_at (at_level n) 0 (omega arith) x (length ls) (omega arith) t)));
 }
+
+-- ---- commas before closing braces
+
+rule_facts : (p : Part) → facts (rule p) ≡ part_facts
+unfolding same_kind e.path_root e.path e.flag e.number e.literal e.option e.atom e.unary e.cmp_op e.container e.comparison e.compared e.conjunction e.disjunction e.condition e.if_expr e.scrutinee e.match_expr e.expression e.item_form e.list e.filter_op e.filter_form e.find e.map_step e.flat_step e.steps e.found e.path_steps e.path_chain e.set_term e.set_step e.sum e.if_set e.match_set e.set
+rule_facts Expression = refl
+rule_facts Set = refl
+
+-- no part has one
+pub calm : (n : ℕ) → Calm (at_level n)
+calm zero p x ls h = absurd h
+calm (suc n) p x ls h = subst (λ f. Keeps f (kinds ls)) (rule_facts p) (keeps (at_level n) (calm n) (rule p) x ls h)

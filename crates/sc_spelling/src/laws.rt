@@ -1,7 +1,8 @@
 //! What holds of the canonical spellings of any trees.
 
-ghost use Rattle.std.specs.Prelude.{ℕ, List, length, map, ◌≡◌, ◌≤◌, ◌++◌, ◌∷◌};
+ghost use Rattle.std.specs.Prelude.{ℕ, List, length, map, ◌≡◌, ◌≤◌, ◌+◌, ◌++◌, ◌∷◌};
 ghost use Rattle.sc_lexer.specs.Lexeme.{Lexeme};
+ghost use Rattle.sc_lexer.specs.declared.token.TokenKind.TheVariants as kind;
 ghost use Rattle.sc_ast.specs.Pieces.{Piece};
 ghost use Rattle.sc_tree.specs.declared.exprs.Expr.{Expr};
 ghost use Rattle.sc_tree.specs.declared.exprs.SetExpr.{SetExpr};
@@ -21,14 +22,17 @@ ghost use Rattle.sc_print.specs.Models.{spelled_policy, spelled_spec};
 ghost use Rattle.sc_spelling.specs.Reprinted.{AreOf, AreTokens, HaveSameTokens};
 ghost use Rattle.sc_spelling.specs.Reprinted.{IsPrinted, IsReprinted, lexeme};
 
-/// The canonical text of a policy, a specification or a script that a text spells within the limits
-/// is a text that spells it again, offsets aside, within the limits.
+/// Of a policy, a specification or a script that a text spells within the limits, offsets aside, the
+/// canonical text is a text that spells it, offsets aside, within the limits.
 pub fn printed_texts_spell()
-    ensures policies { (text : List ℕ) (x : Policy) → IsTextOf policy_form text x →
+    ensures policies { (text : List ℕ) (x y : Policy) → IsTextOf policy_form text y →
+        stripped_policy y ≡ stripped_policy x →
         IsPrinted policy_form stripped_policy x (text_of_marks (spelled_policy x)) }
-    ensures specifications { (text : List ℕ) (x : Spec) → IsSpecText text x →
+    ensures specifications { (text : List ℕ) (x y : Spec) → IsSpecText text y →
+        stripped_spec y ≡ stripped_spec x →
         IsPrinted spec_form stripped_spec x (text_of_marks (spelled_spec x)) }
-    ensures scripts { (text : List ℕ) (x : Script) → IsScriptText text x →
+    ensures scripts { (text : List ℕ) (x y : Script) → IsScriptText text y →
+        stripped_script y ≡ stripped_script x →
         IsPrinted script_form stripped_script x (text_of_marks (spelled_script x)) }
 {}
 
@@ -57,8 +61,9 @@ pub fn texts_are_reprinted()
         IsReprinted script_form stripped_script x (length ks) ks }
 {}
 
-/// A spelling of an equal tree, offsets aside, has no fewer tokens than the canonical one. So
-/// leaving out two of its lexemes, as a pair of parentheses, spells another tree or none.
+/// A spelling of an equal tree, offsets aside, has no fewer tokens than the canonical one, but for
+/// the last comma of each model of a specification. So leaving out two of its lexemes, and of a
+/// specification a pair of parentheses, spells another tree or none.
 pub fn parentheses_are_needed()
     ensures short_expressions { (x y : Expr) (ls : List Piece) →
         AreTokens ls → IsSpelled (part Expression) y ls → stripped_expr y ≡ stripped_expr x →
@@ -69,6 +74,12 @@ pub fn parentheses_are_needed()
     ensures short_policies { (x y : Policy) (ls : List Piece) →
         AreTokens ls → IsSpelled policy_form y ls → stripped_policy y ≡ stripped_policy x →
         length (lexemes_of_marks (spelled_policy x)) ≤ length ls }
+    ensures short_scripts { (x y : Script) (ls : List Piece) →
+        AreTokens ls → IsSpelled script_form y ls → stripped_script y ≡ stripped_script x →
+        length (lexemes_of_marks (spelled_script x)) ≤ length ls }
+    ensures short_specifications { (x y : Spec) (ls : List Piece) →
+        AreTokens ls → IsSpelled spec_form y ls → stripped_spec y ≡ stripped_spec x →
+        length (lexemes_of_marks (spelled_spec x)) ≤ length x.models + length ls }
     ensures expressions { (x y : Expr) (a b c : List Lexeme) (left right : Lexeme) →
         (ls : List Piece) →
         lexemes_of_marks (spelled_expr x).marks ≡ a ++ left ∷ (b ++ right ∷ c) →
@@ -84,6 +95,16 @@ pub fn parentheses_are_needed()
         lexemes_of_marks (spelled_policy x) ≡ a ++ left ∷ (b ++ right ∷ c) →
         map lexeme ls ≡ a ++ (b ++ c) →
         AreTokens ls → IsSpelled policy_form y ls → ¬ (stripped_policy y ≡ stripped_policy x) }
+    ensures scripts { (x y : Script) (a b c : List Lexeme) (left right : Lexeme) →
+        (ls : List Piece) →
+        lexemes_of_marks (spelled_script x) ≡ a ++ left ∷ (b ++ right ∷ c) →
+        map lexeme ls ≡ a ++ (b ++ c) →
+        AreTokens ls → IsSpelled script_form y ls → ¬ (stripped_script y ≡ stripped_script x) }
+    ensures specifications { (x y : Spec) (a b c : List Lexeme) (left right : Lexeme) →
+        (ls : List Piece) → left.kind ≡ kind.ParenOpen → right.kind ≡ kind.ParenClose →
+        lexemes_of_marks (spelled_spec x) ≡ a ++ left ∷ (b ++ right ∷ c) →
+        map lexeme ls ≡ a ++ (b ++ c) →
+        AreTokens ls → IsSpelled spec_form y ls → ¬ (stripped_spec y ≡ stripped_spec x) }
 {}
 
 /// What tokens spell, the same tokens at other places spell too, offsets aside.

@@ -10,13 +10,13 @@
 //! | `pieces` | tokens with their bytes, and what names, numbers and texts they write |
 //! | `reserved` | the reserved words |
 //! | `cursor` | `Cursor`, the tokens that are left to read |
-//! | `atoms` | single tokens: names, numbers, literals and signs |
+//! | `atoms` | paths, literals and other operands |
 //! | `begins` | with which token a form can begin |
-//! | `lists` | lists with separators and brackets |
+//! | `lists` | lists, filters and `Find` |
 //! | `nested` | one level of nesting |
 //! | `exprs`, `sets`, `chains` | expressions, sets, and what follows a set |
 //! | `outermost` | an expression or a set that no other holds, with its budget of tokens |
-//! | `grammar` | the laws of the forms that the parsers read |
+//! | `grammar` | `Grammar`, whose methods are the productions of expressions and sets |
 #![tactic(auto)]
 
 mod atoms;

@@ -8,7 +8,7 @@ use Rattle.sc_tree.specs.declared.models.FieldDef.{FieldDef}
 use Rattle.sc_tree.specs.declared.named.Named.{Named}
 use Rattle.sc_tree.specs.declared.policies.Policy.{Policy}
 use Rattle.sc_tree.specs.Forms.{Upper, either, mapped, nothing, token}
-use Rattle.sc_tree.specs.ExprGrammar.{G, ◌⨾◌, behind, named, parens, sign, type_word}
+use Rattle.sc_tree.specs.ExprGrammar.{G, ◌⨾◌, behind, named, parens, sign, upper_keyword}
 use Rattle.sc_tree.specs.Grammar.{add_field, fields_form, model_form, remove_field, right, update_field, update_model, weaken_field, weaken_model}
 
 -- the first of two rights, and maybe the second; and the second alone
@@ -20,7 +20,7 @@ second_alone two = mapped (λ p. (None, Some p)) (right two)
 
 -- a word with a name in parentheses, and the offset of the word
 abbrev pub word_with_name : List ℕ → G (Named × ℕ)
-word_with_name word = mapped (λ v. (named v.1, v.0.at)) (type_word word ⨾ parens (token Upper))
+word_with_name word = mapped (λ v. (named v.1, v.0.at)) (upper_keyword word ⨾ parens (token Upper))
 
 -- what stands behind the name of a model that is given whole
 abbrev pub model_body : G (Policy × (Policy × List FieldDef))
@@ -31,4 +31,4 @@ abbrev pub of_model : G (Piece → Command)
 of_model = either add_field (either remove_field (either update_field (either weaken_field (either update_model weaken_model))))
 
 abbrev pub create_model : G Command
-create_model = mapped (λ v. command.CreateModel v.1 v.0.at) (type_word (codes "CreateModel") ⨾ parens model_form)
+create_model = mapped (λ v. command.CreateModel v.1 v.0.at) (upper_keyword (codes "CreateModel") ⨾ parens model_form)

@@ -1,2 +1,2 @@
 -- The words that the public contracts speak in.
-pub use Rattle.sc_texts.specs.Refused.{of_lex, IsRefusedAs}
+pub use Rattle.sc_texts.specs.Refused.{of_lex, what_text, IsRefusedAs}

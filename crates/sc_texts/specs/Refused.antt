@@ -1,5 +1,5 @@
 -- Why a text spells no tree of a form, and where.
-use Rattle.std.specs.Prelude.{◌≡◌, ◌+◌, ◌-◌, ℕ, List, [], ◌∷◌, length}
+use Rattle.std.specs.Prelude.{◌≡◌, ◌+◌, ◌-◌, ℕ, List, [], ◌∷◌, length, codes}
 use Rattle.sc_lexer.specs.Lexes.{Lexes}
 use Rattle.sc_lexer.specs.Refused.{Refuses}
 use Rattle.sc_lexer.specs.declared.lex_err.LexErr.{LexErr}
@@ -11,7 +11,17 @@ use Rattle.sc_tree.specs.ExprGrammar.{G}
 use Rattle.sc_causes.specs.Causes.{IsRefused}
 use Rattle.sc_texts.specs.declared.syntax_err.SyntaxErr.{SyntaxErr}
 use Rattle.sc_texts.specs.declared.syntax_err.SyntaxErr.TheVariants as err
+use Rattle.sc_texts.specs.declared.syntax_err.What.{What}
 use Rattle.sc_texts.specs.declared.syntax_err.What.TheVariants as what
+
+-- what there are too many of, as it is told
+abbrev pub what_text : What → List ℕ
+what_text what.Statics = codes "statics"
+what_text what.Models = codes "models"
+what_text what.Fields = codes "fields"
+what_text what.Commands = codes "commands"
+what_text what.NameBytes = codes "name bytes"
+what_text what.TextBytes = codes "text bytes"
 
 -- what is answered where a text has no tokens
 abbrev pub of_lex : LexErr → SyntaxErr

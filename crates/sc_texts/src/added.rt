@@ -1,12 +1,14 @@
 //! Fields that a command adds.
 
-ghost use Rattle.sc_tree.specs.ExprGrammar.{Expression, Set, lambda};
+ghost use Rattle.sc_lexer.specs.declared.token.TokenKind.TheVariants as k;
+ghost use Rattle.sc_tree.specs.ExprGrammar.{Expression, Set, behind, lambda, sign};
 ghost use Rattle.sc_tree.specs.Forms.{either, part, within};
 ghost use Rattle.sc_tree.specs.Grammar as form;
 ghost use Rattle.sc_tree.specs.Grammar.{most_levels, most_tokens};
+ghost use Rattle.sc_forms.specs.Reading.{made};
 ghost use Rattle.sc_syntax.specs.Reads.{Reads, reading};
 
-use crate::models::field_rights;
+use crate::models::with_rights;
 use crate::types::{plain_type, set_type};
 use sc_lexer::TokenKind;
 use sc_syntax::{Cursor, Stop, Word, outermost_expression, outermost_set};
@@ -29,6 +31,22 @@ fn set_of_record<'a>(alloc: Global, cursor: &mut Cursor<'a>) -> Result<(Word<'a>
     Ok((record, set))
 }
 
+/// What was read, and behind a comma a variable and a set.
+#[tactic(auto, unfolding(sc_forms::specs::Reading::read))]
+fn with_set<'a, T: Drop>(
+    alloc: Global,
+    cursor: &mut Cursor<'a>,
+    read: T,
+) -> Result<(T, (Word<'a>, SetExpr)), Stop>
+    ensures { Reads (made (λ v. (read, v)) (reading most_levels
+        (behind (sign k.Comma) (lambda (within most_tokens (part Set)))) cursor.old))
+        result cursor.new }
+{
+    cursor.sign(TokenKind::Comma)?;
+    let set = set_of_record(alloc, cursor)?;
+    Ok((read, set))
+}
+
 /// A variable and an expression.
 #[tactic(auto, unfolding(sc_forms::specs::Reading::read))]
 fn value_of_record<'a>(alloc: Global, cursor: &mut Cursor<'a>) -> Result<(Word<'a>, Expr), Stop>
@@ -41,15 +59,30 @@ fn value_of_record<'a>(alloc: Global, cursor: &mut Cursor<'a>) -> Result<(Word<'
     Ok((record, value))
 }
 
+/// What was read, and behind a comma a variable and an expression.
+#[tactic(auto, unfolding(sc_forms::specs::Reading::read))]
+fn with_value<'a, T: Drop>(
+    alloc: Global,
+    cursor: &mut Cursor<'a>,
+    read: T,
+) -> Result<(T, (Word<'a>, Expr)), Stop>
+    ensures { Reads (made (λ v. (read, v)) (reading most_levels
+        (behind (sign k.Comma) (lambda (within most_tokens (part Expression)))) cursor.old))
+        result cursor.new }
+{
+    cursor.sign(TokenKind::Comma)?;
+    let value = value_of_record(alloc, cursor)?;
+    Ok((read, value))
+}
+
 /// A set type with its rights, and what the field holds at first.
 #[tactic(auto, unfolding(sc_forms::specs::Reading::read, sc_tree::specs::Grammar::added_set))]
 fn added_set<'a>(alloc: Global, cursor: &mut Cursor<'a>) -> Result<Added<'a>, Stop>
     ensures { Reads (reading most_levels form.added_set cursor.old) result cursor.new }
 {
     let ty = set_type(alloc, cursor)?;
-    let (read, write) = field_rights(alloc, cursor)?;
-    cursor.sign(TokenKind::Comma)?;
-    let (record, set) = set_of_record(alloc, cursor)?;
+    let before = with_rights(alloc, cursor, ty)?;
+    let ((ty, (read, write)), (record, set)) = with_set(alloc, cursor, before)?;
     Ok(((ty, read, write), record, Init::OfSet(set)))
 }
 
@@ -59,9 +92,8 @@ fn added_plain<'a>(alloc: Global, cursor: &mut Cursor<'a>) -> Result<Added<'a>, 
     ensures { Reads (reading most_levels form.added_plain cursor.old) result cursor.new }
 {
     let ty = plain_type(alloc, cursor)?;
-    let (read, write) = field_rights(alloc, cursor)?;
-    cursor.sign(TokenKind::Comma)?;
-    let (record, value) = value_of_record(alloc, cursor)?;
+    let before = with_rights(alloc, cursor, ty)?;
+    let ((ty, (read, write)), (record, value)) = with_value(alloc, cursor, before)?;
     Ok(((ty, read, write), record, Init::Plain(value)))
 }
 

@@ -1,7 +1,9 @@
 //! What holds of any text.
 
 ghost use Rattle.std.specs.Prelude.{ℕ, List, ◌≡◌, ◌⊎◌};
+ghost use Rattle.sc_lexer.specs.Literal.{IsLiteral};
 ghost use Rattle.sc_tree.specs.Grammar.{script_form, spec_form};
+ghost use Rattle.sc_tree.specs.LiteralValue.{literal_value};
 ghost use Rattle.sc_tree.specs.Texts.{IsScriptText, IsSpecText};
 ghost use Rattle.sc_tree.specs.declared.models.Spec.{Spec};
 ghost use Rattle.sc_tree.specs.declared.commands.Script.{Script};
@@ -30,4 +32,9 @@ pub fn one_script_text()
         IsScriptText text x → ¬ (IsRefusedAs script_form text err) }
     ensures refusal { (text : List ℕ) (err other : SyntaxErr) →
         IsRefusedAs script_form text err → IsRefusedAs script_form text other → err ≡ other }
+{}
+
+/// A tree has of a text in quotes the bytes that the text stands for.
+pub fn literals_have_their_value()
+    ensures { (bytes value : List ℕ) → IsLiteral bytes value → literal_value bytes ≡ value }
 {}

@@ -25,6 +25,6 @@ mod syntax_err;
 mod texts;
 mod types;
 
-pub use laws::{one_script_text, one_spec_text};
+pub use laws::{literals_have_their_value, one_script_text, one_spec_text};
 pub use syntax_err::{SyntaxErr, What};
 pub use texts::{parse_script, parse_spec};

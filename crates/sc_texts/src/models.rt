@@ -1,6 +1,8 @@
 //! Fields, models and whole specifications.
 
 ghost use Rattle.std.specs.Prelude.{◌≡◌};
+ghost use Rattle.sc_lexer.specs.declared.token.TokenKind.TheVariants as k;
+ghost use Rattle.sc_tree.specs.ExprGrammar.{behind, sign};
 ghost use Rattle.sc_tree.specs.Grammar as form;
 ghost use Rattle.sc_tree.specs.Grammar.{most_levels};
 ghost use Rattle.sc_tree.specs.Forms.{Sign, first};
@@ -11,6 +13,7 @@ ghost use Rattle.sc_texts.specs.Parts.{model_body};
 ghost use Rattle.sc_texts.specs.Turns.{Turns, passed};
 ghost use Rattle.sc_texts.specs.Items.{fields_from, models_from, statics_from};
 
+use crate::closed::closed;
 use crate::policies::right;
 use crate::types::ty;
 use sc_ast::limits::{MOST_FIELDS, MOST_MODELS, MOST_STATICS};
@@ -20,6 +23,22 @@ use sc_tree::{FieldDef, ModelDef, Named, Policy, Spec};
 use sqlite_items::Items;
 use std::alloc::Global;
 
+/// What was read, and behind a comma the right that this word names.
+#[tactic(auto, unfolding(sc_forms::specs::Reading::read))]
+fn with_right<T: Drop>(
+    alloc: Global,
+    cursor: &mut Cursor<'_>,
+    read: T,
+    word: &[u8],
+) -> Result<(T, Policy), Stop>
+    ensures { Reads (made (λ policy. (read, policy)) (reading most_levels
+        (behind (sign k.Comma) (form.right word.now)) cursor.old)) result cursor.new }
+{
+    cursor.sign(TokenKind::Comma)?;
+    let policy = right(alloc, cursor, word)?;
+    Ok((read, policy))
+}
+
 /// The rights on a field: to read it and to write it.
 #[tactic(auto, unfolding(sc_forms::specs::Reading::read, sc_tree::specs::Grammar::field_rights))]
 pub fn field_rights(alloc: Global, cursor: &mut Cursor<'_>) -> Result<(Policy, Policy), Stop>
@@ -27,10 +46,21 @@ pub fn field_rights(alloc: Global, cursor: &mut Cursor<'_>) -> Result<(Policy, P
 {
     cursor.sign(TokenKind::BraceOpen)?;
     let read = right(alloc, cursor, b"read")?;
-    cursor.sign(TokenKind::Comma)?;
-    let write = right(alloc, cursor, b"write")?;
-    cursor.sign(TokenKind::BraceClose)?;
-    Ok((read, write))
+    let rights = with_right(alloc, cursor, read, b"write")?;
+    closed(cursor, TokenKind::BraceClose, rights)
+}
+
+/// What was read, and the rights on a field behind it.
+pub fn with_rights<T: Drop>(
+    alloc: Global,
+    cursor: &mut Cursor<'_>,
+    read: T,
+) -> Result<(T, (Policy, Policy)), Stop>
+    ensures { Reads (made (λ rights. (read, rights))
+        (reading most_levels form.field_rights cursor.old)) result cursor.new }
+{
+    let rights = field_rights(alloc, cursor)?;
+    Ok((read, rights))
 }
 
 /// A field of a model.

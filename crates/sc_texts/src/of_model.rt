@@ -22,16 +22,16 @@ fn with_names<T: Drop>(
     alloc: Global,
     model: &Word<'_>,
     field: &Word<'_>,
-    record: &Word<'_>,
+    of: &Word<'_>,
     read: T,
 ) -> Result<((Named, Named, Named), T), AllocError>
     ensures { IfOk result (λ r. (r.0.0 ≡ named model.now) × (r.0.1 ≡ named field.now)
-        × (r.0.2 ≡ named record.now) × (r.1 ≡ read)) }
+        × (r.0.2 ≡ named of.now) × (r.1 ≡ read)) }
 {
     let model = model.named(alloc)?;
     let field = field.named(alloc)?;
-    let record = record.named(alloc)?;
-    Ok(((model, field, record), read))
+    let of = of.named(alloc)?;
+    Ok(((model, field, of), read))
 }
 
 /// The command that adds such a field to this model.

@@ -1,7 +1,7 @@
 //! Why a text has no tree.
 
-ghost use Rattle.std.specs.Prelude.{◌≡◌};
-ghost use Rattle.sc_texts.specs.Refused.{of_lex};
+ghost use Rattle.std.specs.Prelude.{◌≡◌, Some};
+ghost use Rattle.sc_texts.specs.Refused.{of_lex, what_text};
 ghost use Rattle.sc_texts.specs.declared.syntax_err.SyntaxErr.TheVariants.{OutOfMemory};
 
 use sc_lexer::LexErr;
@@ -12,21 +12,23 @@ use thiserror::Error;
 /// What there may be too many of.
 #[derive(Clone, Copy, Debug, PartialEq, Eq)]
 pub enum What {
-    /// 64 static principals.
+    /// Static principals, of which there are at most 64.
     Statics,
-    /// 64 models.
+    /// Models, of which there are at most 64.
     Models,
-    /// 64 fields of a model.
+    /// Fields of a model, of which there are at most 64.
     Fields,
-    /// 256 commands.
+    /// Commands, of which there are at most 256.
     Commands,
-    /// 64 bytes of a name.
+    /// Bytes of a name, of which there are at most 64.
     NameBytes,
-    /// 4,096 bytes of a text.
+    /// Bytes of a text, of which there are at most 4,096.
     TextBytes,
 }
 
 impl fmt::Display for What {
+    ghost output = { λ what. Some (what_text what) };
+
     fn fmt<W: fmt::Write>(&self, f: &mut fmt::Formatter<W>) -> fmt::Result {
         f.write_str(match self {
             What::Statics => "statics",
@@ -54,8 +56,8 @@ pub enum SyntaxErr {
     /// The opening quote of a literal that is not closed in its line.
     #[error("unfinished at {at}")]
     Unfinished { at: u32 },
-    /// The first token that does not go on with what begins the grammar, by its number from 0; or
-    /// how many tokens there are, where they end too early.
+    /// The number, from 0, of the first token with which the tokens up to it begin no text of the
+    /// form; or how many tokens there are, where they end too early.
     #[error("not grammar at token {token}")]
     NotGrammar { token: u32 },
     /// The first token of an expression or a set at the level 65.

@@ -1,5 +1,5 @@
 -- What the grammar is written in, and what it means.
-use Rattle.std.specs.Prelude.{◌≡◌, ◌≤◌, ◌<◌, ◌⊎◌, ℕ, zero, suc, ◌-◌, Bool, true, false, if◌then◌else◌, not, ◌&&◌, nat_le, List, [], ◌∷◌, ◌++◌, length}
+use Rattle.std.specs.Prelude.{◌≡◌, ◌≤◌, ◌⊎◌, ℕ, suc, ◌-◌, Bool, true, false, if◌then◌else◌, not, ◌&&◌, nat_le, List, [], ◌∷◌, ◌++◌, length}
 use Rattle.std.specs.List.{list_any}
 use Rattle.std.specs.Str.{bytes_eq}
 use Rattle.std.specs.Str.Parse.{digits_value}
@@ -26,6 +26,7 @@ pub data Want : Type 0 where
   Negated : Want
   Literal : Want
 
+-- one kind is the other
 unfoldable pub same_kind : TokenKind → TokenKind → Bool
 same_kind = sameb the_type
 
@@ -33,6 +34,7 @@ same_kind = sameb the_type
 abbrev pub largest : ℕ
 largest = LARGEST_NUMBER - 1
 
+-- the token is one that is wanted
 unfoldable pub admits : Want → Piece → Bool
 admits (Sign kind) l = same_kind l.kind kind
 admits (Word kind word) l = same_kind l.kind kind && bytes_eq l.bytes word
@@ -76,7 +78,7 @@ pub data Form (P : Type 0) (T : P → Type 0) : Type 0 → Type 1 where
   -- the form, of at most so many tokens
   within : {A : Type 0} → ℕ → Form P T A → Form P T A
 
--- whether the form may be no pieces
+-- Whether the form may be no pieces. Of a choice only the second form is asked: in the grammars no first one may.
 abbrev pub empty : {P : Type 0} {T : P → Type 0} → {A : Type 0} → Form P T A → Bool
 empty (nothing x) = true
 empty (token w) = false
@@ -118,6 +120,7 @@ SpellsEach F (x ∷ xs) ls = (F x then SpellsEach F xs) ls
 abbrev pub IsToken : Want → List Piece → Type 0
 IsToken w ls = (l : Piece) × (ls ≡ l ∷ []) × (admits w l ≡ true)
 
+-- so many may stand
 abbrev pub AreWithin : Times → ℕ → Type 0
 AreWithin AnyNumber count = Unit {0}
 AreWithin (AtMost most cause) count = count ≤ most
@@ -127,6 +130,7 @@ abbrev pub IsFull : Times → ℕ → Cause → Type 0
 IsFull AnyNumber count c = ⊥
 IsFull (AtMost most cause) count c = (count ≡ most) × (c ≡ cause)
 
+-- S spells the parts
 abbrev pub Spells : {P : Type 0} {T : P → Type 0} → ((p : P) → T p → List Piece → Type 0)
     → {A : Type 0} → Form P T A → A → List Piece → Type 0
 Spells S (nothing x) y ls = (y ≡ x) × (ls ≡ [])

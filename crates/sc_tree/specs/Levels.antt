@@ -20,7 +20,8 @@ abbrev pub BeginsPart : {P : Type 0} {T : P → Type 0} → Rules P T → (P →
 BeginsPart G F zero p ls = (ls ≡ []) ⊎ IsFirst (F p) ls
 BeginsPart G F (suc n) p ls = Begins (SpellsPart G n) (BeginsPart G F n) (G p) ls
 
--- The last piece is the first of a part with no level left of n; the other number is that of levels at which parts begin.
+-- The last piece is the first of a part below as many others as may hold it. So many levels are left for parts that begin (m), and for
+-- those that are spelled (the other number).
 abbrev pub IsTooDeep : {P : Type 0} {T : P → Type 0} → Rules P T → (P → List Want) → ℕ → ℕ → P → List Piece → Type 0
 IsTooDeep G F m zero p ls = IsFirst (F p) ls
 IsTooDeep G F zero (suc n) p ls = ⊥

@@ -1,5 +1,5 @@
 -- The first token of an expression and of a set.
-use Rattle.std.specs.Prelude.{ℕ, List}
+use Rattle.std.specs.Prelude.{ℕ}
 use Rattle.sc_tree.specs.declared.exprs.Expr.{Expr, out-Expr}
 use Rattle.sc_tree.specs.declared.exprs.Expr.TheVariants as e
 use Rattle.sc_tree.specs.declared.exprs.Expr.TheOpen.{Expr-F, SetExpr-F}
@@ -29,7 +29,7 @@ layer_at (Expr-F.Not at inner) = at
 layer_at (Expr-F.And at left right) = at
 layer_at (Expr-F.Or at left right) = at
 layer_at (Expr-F.IfE at test one other) = at
-layer_at (Expr-F.MatchE at of none (name, some)) = at
+layer_at (Expr-F.MatchE at of none some) = at
 
 -- the offset of its first token
 unfoldable pub expr_at : Expr → ℕ
@@ -49,7 +49,7 @@ layer_moved at (Expr-F.Not old inner) = e.Not at inner
 layer_moved at (Expr-F.And old left right) = e.And at left right
 layer_moved at (Expr-F.Or old left right) = e.Or at left right
 layer_moved at (Expr-F.IfE old test one other) = e.IfE at test one other
-layer_moved at (Expr-F.MatchE old of none (name, some)) = e.MatchE at of none (name, some)
+layer_moved at (Expr-F.MatchE old of none some) = e.MatchE at of none some
 
 -- the expression, with its first token at this offset
 unfoldable pub placed_expr : ℕ → Expr → Expr

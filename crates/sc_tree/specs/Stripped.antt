@@ -1,5 +1,5 @@
 -- Trees without their places: two trees are equal, offsets aside, where what is left of them is equal.
-use Rattle.std.specs.Prelude.{ℕ, zero, List, map, Option, Some, None}
+use Rattle.std.specs.Prelude.{map, Option, Some, None}
 use Rattle.sc_tree.specs.declared.named.Named.{Named}
 use Rattle.sc_tree.specs.declared.named.Reason.{Reason}
 use Rattle.sc_tree.specs.declared.exprs.Expr.{Expr}

@@ -1,12 +1,12 @@
 -- The text of a tree, and why a text has none.
-use Rattle.std.specs.Prelude.{◌≡◌, ◌≤◌, ℕ, List, []}
+use Rattle.std.specs.Prelude.{ℕ, List, []}
 use Rattle.sc_lexer.specs.declared.token.Token.{Token}
 use Rattle.sc_lexer.specs.Lexes.{Lexes}
 use Rattle.sc_tree.specs.declared.models.Spec.{Spec}
 use Rattle.sc_tree.specs.declared.commands.Script.{Script}
 use Rattle.sc_ast.specs.Pieces.{Piece, pieces_of}
-use Rattle.sc_tree.specs.Forms.{Want, Cause, Spells, Begins, Breaks, loosened, first}
-use Rattle.sc_tree.specs.Levels.{SpellsPart, BeginsPart, IsTooDeep}
+use Rattle.sc_tree.specs.Forms.{Want, Spells, Begins, loosened, first}
+use Rattle.sc_tree.specs.Levels.{SpellsPart, BeginsPart}
 use Rattle.sc_tree.specs.ExprGrammar.{Part, G, rule}
 use Rattle.sc_tree.specs.Grammar.{spec_form, script_form, most_levels}
 
@@ -28,12 +28,6 @@ IsBegunAt n f ls = Begins (SpellsPart rule n) (BeginsPart rule first_of n) f ls
 -- without limits
 abbrev pub IsBegun : {A : Type 0} → G A → List Piece → Type 0
 IsBegun f ls = (n : ℕ) × IsBegunAt n f ls
-
--- The last piece breaks the limit of the cause, and none before it does.
-abbrev pub IsBroken : {A : Type 0} → Cause → G A → List Piece → Type 0
-IsBroken c f ls =
-    Breaks (SpellsPart rule most_levels) (SpellsPart rule most_levels) (BeginsPart rule first_of most_levels)
-    (IsTooDeep rule first_of most_levels most_levels) c f ls
 
 -- The text has tokens, and they spell the tree.
 abbrev pub IsTextOf : {A : Type 0} → G A → List ℕ → A → Type 0

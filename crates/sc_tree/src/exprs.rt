@@ -68,7 +68,8 @@ pub enum Expr {
 #[cycle(tree)]
 #[derive(Drop)]
 pub enum SetExpr {
-    /// `public`, and the offset of the word, inside the parentheses.
+    /// `public`: the offset of the first token, and then that of the word, which differ where it
+    /// stands in parentheses.
     Everyone(u32, u32),
     /// `none`
     Nobody(u32),
@@ -80,7 +81,8 @@ pub enum SetExpr {
     Less(u32, Boxed<SetExpr>, Boxed<SetExpr>),
     /// `M::Find({..})`
     Find(u32, Boxed<Named>, Items<Filter>),
-    /// A variable or a field of it that is a set.
+    /// A variable or a field of one that is a set; after `in` also a field of what stands in
+    /// parentheses.
     Path(u32, Expr),
     /// `S.map(x -> e)`
     MapS(u32, Boxed<SetExpr>, Boxed<Named>, Boxed<Expr>),

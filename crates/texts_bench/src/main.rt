@@ -63,7 +63,7 @@ fn time_script(rt: &HostRuntime, bytes: &[u8]) -> io::Result<ExitCode>
 fn time_printed_spec(rt: &HostRuntime, start: Instant, spec: &Spec) -> io::Result<ExitCode> {
     say_read(rt, start)?;
     let start = Instant::now(rt)?;
-    let text = print_spec(spec, rt.alloc())?;
+    let text = print_spec(rt.alloc(), spec)?;
     say_printed(rt, start, text.len())
 }
 
@@ -71,7 +71,7 @@ fn time_printed_spec(rt: &HostRuntime, start: Instant, spec: &Spec) -> io::Resul
 fn time_printed_script(rt: &HostRuntime, start: Instant, script: &Script) -> io::Result<ExitCode> {
     say_read(rt, start)?;
     let start = Instant::now(rt)?;
-    let text = print_script(script, rt.alloc())?;
+    let text = print_script(rt.alloc(), script)?;
     say_printed(rt, start, text.len())
 }
 

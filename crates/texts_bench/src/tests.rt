@@ -30,7 +30,7 @@ fn a_long_sum_is_refused_at_its_token_1_025(rt: HostRuntime) -> Result<(), Fail>
 #[test]
 fn a_canonical_text_is_printed_as_it_is(rt: HostRuntime) -> Result<(), Fail> {
     let spec = spec_of(rt.alloc(), TEXT)?;
-    assert_eq!(rt; print_spec(&spec, rt.alloc())?.as_slice(), TEXT);
+    assert_eq!(rt; print_spec(rt.alloc(), &spec)?.as_slice(), TEXT);
     Ok(())
 }
 

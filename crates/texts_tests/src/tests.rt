@@ -35,13 +35,13 @@ fn script_of(alloc: Global, text: &[u8]) -> Result<Script, SyntaxErr> {
 /// The canonical text of the specification that a text spells.
 fn printed_spec(alloc: Global, text: &[u8]) -> Result<Vec<u8>, Fail> {
     let spec = spec_of(alloc, text)?;
-    Ok(print_spec(&spec, alloc)?)
+    Ok(print_spec(alloc, &spec)?)
 }
 
 /// The canonical text of the script that a text spells.
 fn printed_script(alloc: Global, text: &[u8]) -> Result<Vec<u8>, Fail> {
     let script = script_of(alloc, text)?;
-    Ok(print_script(&script, alloc)?)
+    Ok(print_script(alloc, &script)?)
 }
 
 /// One text again and again.

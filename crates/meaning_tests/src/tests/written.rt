@@ -30,7 +30,7 @@ principal model User {
 /// The canonical text of a schema.
 fn text_of(alloc: Global, s: &Schema) -> Result<Vec<u8>, Fail> {
     let spec = spec_of(alloc, s)?;
-    Ok(print_spec(&spec, alloc)?)
+    Ok(print_spec(alloc, &spec)?)
 }
 
 #[test]

@@ -53,6 +53,30 @@ model Membership {
 }
 ";
 
+const BANS: &[u8] = b"principal model User {create: public, delete: none}
+model Group {
+  create: public,
+  delete: none,
+  plan: Text {read: g -> Membership::Find({group: g}).flat_map(m ->
+    [m.user] - Ban::Find({group: g}).map(b -> b.user)), write: none},
+  idea: Text {read: g -> Membership::Find({group: g}).flat_map(m ->
+    [m.user] - Membership::Find({level > 3}).map(k -> k.user)), write: none},
+}
+model Membership {
+  create: public,
+  delete: none,
+  user: Id(User) {read: none, write: none},
+  group: Id(Group) {read: none, write: none},
+  level: Int {read: none, write: none},
+}
+model Ban {
+  create: public,
+  delete: none,
+  user: Id(User) {read: none, write: none},
+  group: Id(Group) {read: none, write: none},
+}
+";
+
 /// A script on a specification, with the status and the report, or the front of the report.
 struct Row {
     spec: &'static [u8],
@@ -61,7 +85,7 @@ struct Row {
     report: &'static [u8],
 }
 
-const ACCEPTED: [Row; 15] = [
+const ACCEPTED: [Row; 20] = [
     Row {
         spec: NOTES,
         script: b"",
@@ -161,6 +185,45 @@ const ACCEPTED: [Row; 15] = [
         status: Status::Done,
         report: b"accepted obligations 2\n",
     },
+    // Differences of sets.
+    Row {
+        spec: USERS,
+        script: b"User::UpdateFieldPolicy(secret, {read: u -> User::Find({isAdmin: true}) - [u.manager]})",
+        status: Status::Done,
+        report: b"accepted obligations 1\n",
+    },
+    Row {
+        spec: BANS,
+        script: b"Group::UpdateFieldPolicy(plan, {read: g ->
+            Membership::Find({group: g, level > 0}).flat_map(m ->
+              [m.user] - Ban::Find({group: g}).map(b -> b.user))})",
+        status: Status::Done,
+        report: b"accepted obligations 1\n",
+    },
+    // This is not stratified, and nobody gains: the policy is the same.
+    Row {
+        spec: BANS,
+        script: b"Group::UpdateFieldPolicy(idea, {read: g -> Membership::Find({group: g}).flat_map(m ->
+            [m.user] - Membership::Find({level > 3}).map(k -> k.user))})",
+        status: Status::Done,
+        report: b"accepted obligations 1\n",
+    },
+    // Added fields that hold sets, and that say who is in one.
+    Row {
+        spec: USERS,
+        script: b"User::AddField(peers: Set(Id(User)) {read: public, write: none},
+            u -> User::Find({isAdmin: true}))",
+        status: Status::Done,
+        report: b"accepted obligations 1\n",
+    },
+    Row {
+        spec: USERS,
+        script: b"User::AddField(boss: Bool {read: public, write: none},
+              u -> u in {User::Find({isAdmin: true})})
+            User::UpdateFieldPolicy(secret, {read: u -> User::Find({boss: true})})",
+        status: Status::Done,
+        report: b"accepted obligations 2\n",
+    },
 ];
 
 /// A script that leaks, with the first line of its report and a part of what follows. Which witness
@@ -172,7 +235,7 @@ struct LeakRow {
     part: &'static str,
 }
 
-const LEAKS: [LeakRow; 11] = [
+const LEAKS: [LeakRow; 14] = [
     LeakRow {
         spec: NOTES,
         script: b"Note::UpdateFieldPolicy(body, {write: n -> [Visitor, Robot]})",
@@ -249,6 +312,27 @@ const LEAKS: [LeakRow; 11] = [
             User::AddField(secret: Text {read: public, write: none}, u -> u.tmp)",
         line: "leak command 3 field User.secret right read\n",
         part: " tmp\ndatabase\n",
+    },
+    LeakRow {
+        spec: USERS,
+        script: b"User::UpdateFieldPolicy(age, {read: u -> [u] - [u.manager]})",
+        line: "leak command 1 field User.age right read\n",
+        part: "\nprincipal User @",
+    },
+    // Somebody who is banned is let in: nobody else is needed to show it.
+    LeakRow {
+        spec: BANS,
+        script: b"Group::UpdateFieldPolicy(plan, {read: g ->
+            Membership::Find({group: g, level > 0}).map(m -> m.user)})",
+        line: "leak command 1 field Group.plan right read\n",
+        part: "\nBan @2 {\n  @1 {user: @1, group: @1}\n}\nend\n",
+    },
+    LeakRow {
+        spec: USERS,
+        script: b"User::AddField(peers: Set(Id(User)) {read: public, write: none},
+            u -> User::Find({age > 17}))",
+        line: "leak command 1 field User.peers right read\n",
+        part: " age\ndatabase\n",
     },
 ];
 

@@ -267,27 +267,30 @@ fn initialisers_up_to_the_limit(rt: HostRuntime) -> Result<(), Fail> {
     Ok(())
 }
 
-/// Added fields, each of which has the one before twice, one in the other.
-fn nested(alloc: Global, fields: u16) -> Result<Vec<u8>, AllocError> {
+/// Added fields, the first of which is these fields of the record, and each other one has the one
+/// before twice, one in the other.
+fn nested(alloc: Global, first: &[u8], fields: u16) -> Result<Vec<u8>, AllocError> {
     let mut text = Vec::new(alloc);
     for number in 1..=fields {
         text.extend_from_slice(b"User::AddField(a")?;
         push_number(alloc, &mut text, number)?;
-        text.extend_from_slice(b": Id(User) {read: none, write: none}, u -> u.")?;
+        text.extend_from_slice(b": Id(User) {read: none, write: none}, u -> u")?;
         if number == 1 {
-            text.extend_from_slice(b"manager.manager")?;
+            text.extend_from_slice(first)?;
         } else {
-            text.extend_from_slice(b"a")?;
-            push_number(alloc, &mut text, number - 1)?;
-            text.extend_from_slice(b".a")?;
-            push_number(alloc, &mut text, number - 1)?;
+            for _ in 0..2 {
+                text.extend_from_slice(b".a")?;
+                push_number(alloc, &mut text, number - 1)?;
+            }
         }
         text.extend_from_slice(b")\n")?;
     }
     Ok(text)
 }
 
-/// Terms that are long are refused for their size, and not for how deep a walk through them goes.
+/// Terms that are long are refused for their size, and not for how deep a walk through them goes,
+/// where they are chains of fields. What goes too deep for the stack otherwise is refused for want
+/// of memory.
 #[test]
 fn added_fields_within_added_fields(rt: HostRuntime) -> Result<(), Fail> {
     let spec = b"principal model User {
@@ -296,13 +299,15 @@ fn added_fields_within_added_fields(rt: HostRuntime) -> Result<(), Fail> {
   manager: Id(User) {read: u -> [u.manager], write: none},
 }
 ";
-    for (fields, status) in [
-        (9, Status::Done),
-        (10, Status::TooLarge),
-        (13, Status::TooLarge),
-        (14, Status::TypesRefused),
+    let managers = b".manager.manager".as_slice();
+    for (first, fields, status) in [
+        (managers, 9, Status::Done),
+        (managers, 10, Status::TooLarge),
+        (managers, 13, Status::TooLarge),
+        (managers, 14, Status::TypesRefused),
+        (b"".as_slice(), 12, Status::OutOfMemory),
     ] {
-        let script = nested(rt.alloc(), fields)?;
+        let script = nested(rt.alloc(), first, fields)?;
         let ended = check_texts(rt.alloc(), spec, script.as_slice())?;
         assert_eq!(rt; ended.status, status);
     }

@@ -10,13 +10,13 @@ use std::test::Fail;
 /// The canonical text of a copy.
 fn spec_copied(alloc: Global, spec: &Spec) -> Result<Vec<u8>, Fail> {
     let copy = spec.copy(alloc)?;
-    Ok(print_spec(&copy, alloc)?)
+    Ok(print_spec(alloc, &copy)?)
 }
 
 /// The canonical text of a copy.
 fn script_copied(alloc: Global, script: &Script) -> Result<Vec<u8>, Fail> {
     let copy = script.copy(alloc)?;
-    Ok(print_script(&copy, alloc)?)
+    Ok(print_script(alloc, &copy)?)
 }
 
 #[test]

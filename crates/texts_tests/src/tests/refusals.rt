@@ -65,7 +65,7 @@ fn what_is_no_token_is_refused_before_the_grammar(rt: HostRuntime) {
 fn each_limit_of_a_script_is_exact(rt: HostRuntime) -> Result<(), Fail> {
     let alloc = rt.alloc();
     let set = b"M::UpdatePolicy({create: x -> ";
-    let list = b"M::UpdatePolicy({create: x -> [A";
+    let list = b"M::UpdatePolicy({create: x -> [!x";
     let model = b"CreateModel(model M {create: none, delete: none";
     let field = b", f: Int {read: none, write: none}";
     let reason = b"M::WeakenPolicy({create: none}, \"";

@@ -1,6 +1,7 @@
 //! Texts and the trees that they spell, as canonical texts.
 
-use crate::tests::{printed_script, printed_spec, script_of};
+use crate::tests::{printed_script, printed_spec, repeated, script_of};
+use sc_print::print_policy;
 use sc_tree::{Command, Policy};
 use std::test::Fail;
 
@@ -106,5 +107,26 @@ fn a_tree_keeps_its_places(rt: HostRuntime) -> Result<(), Fail> {
         set.at(),
     ];
     assert_eq!(rt; places, [1, 13, 17, 17, 42, 56, 61]);
+    Ok(())
+}
+
+#[test]
+fn policies_are_printed_by_themselves(rt: HostRuntime) -> Result<(), Fail> {
+    let table = [
+        ("public", "public"),
+        ("none", "none"),
+        ("u->([u]+u.known)", "u -> [u] + u.known"),
+        ("u->[A]-([B]-[C])", "u -> [A] - ([B] - [C])"),
+    ];
+    for (policy, want) in table {
+        let policy = policy.as_bytes();
+        let text = repeated(rt.alloc(), b"M::UpdatePolicy({create:", policy, 1, b"})")?;
+        let script = script_of(rt.alloc(), text.as_slice())?;
+        let [Command::UpdatePolicy(_, Some(create), None, _)] = script.commands.as_slice() else {
+            return Ok(assert!(rt; false, "one command"));
+        };
+        let shown = print_policy(rt.alloc(), create)?;
+        assert_eq!(rt; shown.as_slice(), want.as_bytes());
+    }
     Ok(())
 }

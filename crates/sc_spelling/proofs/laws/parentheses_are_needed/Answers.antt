@@ -1,24 +1,33 @@
-use Rattle.std.proofs.Common.{◌≡◌, ◌≤◌, List, length, subst, arith}
+use Rattle.std.proofs.Common.{◌≡◌, ◌≤◌, ◌+◌, ◌++◌, ◌∷◌, List, length, subst, sym, ap, ◌∙◌, arith}
+use Rattle.std.proofs.lemmas.List.{length-map}
 use Rattle.sc_ast.specs.Pieces.{Piece}
 use Rattle.sc_tree.specs.declared.exprs.Expr.{Expr}
 use Rattle.sc_tree.specs.declared.exprs.SetExpr.{SetExpr}
+use Rattle.sc_tree.specs.declared.commands.Script.{Script}
+use Rattle.sc_tree.specs.declared.models.Spec.{Spec}
 use Rattle.sc_tree.specs.declared.policies.Policy.{Policy}
 use Rattle.sc_tree.specs.ExprGrammar.{Expression, Set}
 use Rattle.sc_tree.specs.Forms.{Spells, part}
-use Rattle.sc_tree.specs.Grammar.{most_levels, policy_form}
-use Rattle.sc_tree.specs.Stripped.{stripped_expr, stripped_policy, stripped_set}
+use Rattle.sc_tree.specs.Grammar.{most_levels, policy_form, script_form, spec_form}
+use Rattle.sc_tree.specs.Stripped.{stripped_expr, stripped_model, stripped_policy, stripped_script, stripped_set, stripped_spec}
 use Rattle.sc_tree.specs.Texts.{IsSpelled}
+use Rattle.sc_print.specs.Commands.{spelled_script}
 use Rattle.sc_print.specs.Exprs.{spelled_expr, spelled_set}
 use Rattle.sc_print.specs.Marks.{lexemes_of_marks}
-use Rattle.sc_print.specs.Models.{spelled_policy}
+use Rattle.sc_print.specs.Models.{spelled_policy, spelled_spec}
 use Rattle.sc_spelling.specs.Reprinted.{AreTokens}
 use Rattle.sc_spelling.proofs.Again.{good_of}
+use Rattle.sc_spelling.proofs.CommandForms.{AsScript, p_script}
+use Rattle.sc_spelling.proofs.Equal.{one_script, one_spec}
 use Rattle.sc_spelling.proofs.Fusion.{one_expr, one_set}
+use Rattle.sc_spelling.proofs.ModelForms.{AsSpec, p_spec}
+use Rattle.sc_spelling.proofs.LastCommas.{kinds, lasts}
+use Rattle.sc_spelling.proofs.ModelCommas.{kinds_of, lasts_of_spec, lexeme_kinds, pair_kept}
 use Rattle.sc_spelling.proofs.Needed.{at_most, one_policy, two_less}
 use Rattle.sc_spelling.proofs.PolicyForms.{AsPolicy, policy_c}
 use Rattle.sc_spelling.proofs.Ranks.{AsExpr}
 use Rattle.sc_spelling.proofs.SetRanks.{AsSet}
-use Rattle.sc_spelling.proofs.Whole.{at_level, knows}
+use Rattle.sc_spelling.proofs.Whole.{at_level, calm, knows}
 use Rattle.sc_spelling.proofs.laws.parentheses_are_needed.Goals as goal
 
 expr_short : (x y : Expr) (ls : List Piece) → AreTokens ls → IsSpelled (part Expression) y ls → stripped_expr y ≡ stripped_expr x
@@ -39,6 +48,27 @@ policy_short x y ls good h same =
     subst (λ z. length (lexemes_of_marks z) ≤ length ls) (one_policy y x same)
     (at_most (AsPolicy y) (Spells (at_level most_levels) policy_form) (lexemes_of_marks (spelled_policy y)) (length ls)
     (policy_c (at_level most_levels) (knows most_levels) y ls (good_of ls good) h))
+
+script_short : (x y : Script) (ls : List Piece) → AreTokens ls → IsSpelled script_form y ls → stripped_script y ≡ stripped_script x
+    → length (lexemes_of_marks (spelled_script x)) ≤ length ls
+script_short x y ls good h same =
+    subst (λ z. length (lexemes_of_marks z) ≤ length ls) (one_script y x same)
+    (at_most (AsScript y) (Spells (at_level most_levels) script_form) (lexemes_of_marks (spelled_script y)) (length ls)
+    (p_script (at_level most_levels) (knows most_levels) (calm most_levels) y ls (good_of ls good) h))
+
+-- equal specifications have as many models
+as_many : (x y : Spec) → stripped_spec y ≡ stripped_spec x → length y.models ≡ length x.models
+as_many x y same = sym (length-map y.models stripped_model) ∙ ap (λ (s : Spec). length s.models) same ∙ length-map x.models stripped_model
+
+-- the commas at the ends of models aside
+spec_most : (x y : Spec) (ls : List Piece) → AreTokens ls → IsSpelled spec_form y ls → stripped_spec y ≡ stripped_spec x
+    → length (lexemes_of_marks (spelled_spec x)) + lasts (kinds ls) ≤ length x.models + length ls
+spec_most x y ls good h same =
+    let w = p_spec (at_level most_levels) (knows most_levels) (calm most_levels) y ls (good_of ls good) h in
+    let short : length (lexemes_of_marks (spelled_spec y)) ≤ w.most =
+    at_most (AsSpec y) (Spells (at_level most_levels) spec_form) (lexemes_of_marks (spelled_spec y)) w.most w.canon in
+    let moved : length (lexemes_of_marks (spelled_spec x)) ≤ w.most = subst (λ z. length (lexemes_of_marks z) ≤ w.most) (one_spec y x same) short in
+    omega (arith, as_many x y same, moved, w.few)
 
 pub returns-clause-expressions : goal.returns-clause-expressions
 returns-clause-expressions c x y a b d v w ls is of good h same =
@@ -66,3 +96,25 @@ returns-clause-short_sets c x y ls good h same = set_short x y ls good h same
 
 pub returns-clause-short_policies : goal.returns-clause-short_policies
 returns-clause-short_policies c x y ls good h same = policy_short x y ls good h same
+
+pub returns-clause-short_scripts : goal.returns-clause-short_scripts
+returns-clause-short_scripts c x y ls good h same = script_short x y ls good h same
+
+pub returns-clause-short_specifications : goal.returns-clause-short_specifications
+returns-clause-short_specifications c x y ls good h same = omega (arith, spec_most x y ls good h same)
+
+pub returns-clause-scripts : goal.returns-clause-scripts
+returns-clause-scripts c x y a b d v w ls is of good h same =
+    let less = two_less a b d (lexemes_of_marks (spelled_script x)) v w ls is of in
+    let short = script_short x y ls good h same in
+    omega arith
+
+pub returns-clause-specifications : goal.returns-clause-specifications
+returns-clause-specifications c x y a b d v w ls begun done is of good h same =
+    let less = two_less a b d (lexemes_of_marks (spelled_spec x)) v w ls is of in
+    let short = spec_most x y ls good h same in
+    let each : length x.models ≤ lasts (lexeme_kinds (lexemes_of_marks (spelled_spec x))) = lasts_of_spec x in
+    let kept = pair_kept a b d v w begun done in
+    let first : lasts (lexeme_kinds (lexemes_of_marks (spelled_spec x))) ≡ lasts (lexeme_kinds (a ++ v ∷ (b ++ w ∷ d))) = ap (λ z. lasts (lexeme_kinds z)) is in
+    let last : lasts (kinds ls) ≡ lasts (lexeme_kinds (a ++ (b ++ d))) = ap lasts (kinds_of ls) ∙ ap (λ z. lasts (lexeme_kinds z)) of in
+    omega (arith, less, short, each, kept, first, last)
