@@ -1,7 +1,7 @@
 -- Formulas of lists, joined one by one; and quantified formulas.
-use Rattle.std.proofs.Common.{◌≡◌, ℕ, suc, ◌+◌, ◌≤◌, Bool, true, false, not, refl, sym, ◌∙◌, List, [], ◌∷◌, ◌++◌, ap, subst, arith, length, take, drop, get_or, ◌-◌, ◌<◌}
+use Rattle.std.proofs.Common.{◌≡◌, ℕ, suc, ◌+◌, ◌≤◌, Bool, false, not, refl, sym, ◌∙◌, List, [], ◌∷◌, ◌++◌, ap, subst, arith, length, take, drop, get_or, ◌-◌, ◌<◌}
 use Rattle.std.proofs.lemmas.List.{take_rest}
-use Rattle.std.specs.Prelude.{Result, Ok, Err, fold, map}
+use Rattle.std.specs.Prelude.{Result, fold, map}
 use Rattle.sc_tree.specs.declared.exprs.FilterOp.{FilterOp}
 use Rattle.sc_schema.specs.declared.trees.TExpr.{TExpr}
 use Rattle.sc_schema.specs.declared.trees.TItem.{TItem}
@@ -20,12 +20,12 @@ use Rattle.sc_formula.specs.Nodes.{formula_of, formula_part}
 use Rattle.sc_duty.specs.Sizes.{size}
 use Rattle.sc_duty.specs.Structures.{sort_of}
 use Rattle.sc_duty.specs.Cases.{Cases, at_term, continued, at_ends, of_term, at_terms, atom, constant, any_if, all_if, and_if, exists_if}
-use Rattle.sc_duty.specs.Formulas.{Who, record_at, Written, Scene, of_model, is_static, field_cases, passes, cases_of, is_in, items_in, filters_at}
+use Rattle.sc_duty.specs.Formulas.{Who, record_at, Written, of_model, is_static, field_cases, passes, cases_of, is_in, items_in, filters_at}
 use Rattle.sc_writer.specs.declared.make_err.MakeErr.{MakeErr}
 use Rattle.sc_writer.specs.declared.writer.Mode.TheVariants.{Build}
 use Rattle.sc_writer.specs.declared.writer.Writer.{Writer}
 use Rattle.sc_writer.specs.Made.{IsMade, MakesFor, Makes, IsPart}
-use Rattle.sc_writer.proofs.Joining.{made_as, made_later, size-and_if, size-exists_if}
+use Rattle.sc_writer.proofs.Joining.{made_as, made_later, size-exists_if}
 use Rattle.sc_writer.proofs.Putting.{keeps_all}
 use Rattle.sc_builder.specs.Values.{rest_cost, mapped_formula, flat_formula}
 use Rattle.sc_builder.proofs.Walks.{ap2, ask_done}

@@ -1,5 +1,5 @@
 -- Uses of fields at each record of a set.
-use Rattle.std.proofs.Common.{◌≡◌, ℕ, suc, ◌+◌, ◌≤◌, true, List, [], ◌∷◌, ◌++◌, arith}
+use Rattle.std.proofs.Common.{◌≡◌, ℕ, suc, ◌≤◌, true, List, [], ◌∷◌, ◌++◌, arith}
 use Rattle.sc_schema.specs.Schema.{Schema}
 use Rattle.sc_schema.specs.Trees.{SetExpr}
 use Rattle.sc_formula.specs.Trees.{Term, Formula, bound, both, exists}

@@ -1,5 +1,5 @@
 -- Places of uses, form by form.
-use Rattle.std.proofs.Common.{◌≡◌, ℕ, ◌-◌, Bool, true, false, refl, ap, sym, ◌∙◌, nat_lt, subst}
+use Rattle.std.proofs.Common.{◌≡◌, ℕ, ◌-◌, Bool, true, false, refl, ap, ◌∙◌, nat_lt, subst}
 use Rattle.std.specs.Prelude.{if◌then◌else◌, Result, Ok, Err, IfOk}
 use Rattle.sc_schema.specs.declared.trees.TExpr.{TExpr}
 use Rattle.sc_schema.specs.declared.trees.TSet.{TSet}

@@ -1,11 +1,11 @@
 -- The type of a field.
-use Rattle.std.proofs.Common.{◌≡◌, ℕ, Bool, true, false, refl, sym, ◌∙◌, List, [], ◌∷◌, ap, subst, cond}
+use Rattle.std.proofs.Common.{◌≡◌, ℕ, Bool, true, false, refl, sym, ◌∙◌, List, [], ◌∷◌, ap}
 use Rattle.std.specs.Prelude.{map, Option, Some, None, find, ◌==◌, if◌then◌else◌, option_and_then}
 use Rattle.std.specs.Option.{option_map}
 use Rattle.sc_schema.specs.declared.schemas.FieldInfo as code_field
 use Rattle.sc_schema.specs.declared.schemas.ModelInfo as code_model
 use Rattle.sc_schema.specs.declared.schemas.Schema as code_schema
-use Rattle.sc_schema.specs.Schema.{FieldInfo, ModelInfo, Schema, model_of, field_in, type_of}
+use Rattle.sc_schema.specs.Schema.{FieldInfo, ModelInfo, model_of, field_in, type_of}
 use Rattle.sc_schema.specs.SchemaViews.{field_info_of, model_info_of, schema_of}
 
 find-map : {A B : Type 0} (v : A → B) (p : B → Bool) (xs : List A) → find p (map v xs) ≡ option_map v (find (λ x. p (v x)) xs)

@@ -1,18 +1,18 @@
 -- How values are walked end by end.
-use Rattle.std.proofs.Common.{◌≡◌, ℕ, suc, Bool, true, false, not, refl, sym, ◌∙◌, List, [], ◌∷◌, ◌++◌, ap, subst, cond}
+use Rattle.std.proofs.Common.{◌≡◌, ℕ, Bool, true, false, refl, sym, ◌∙◌, List, [], ◌∷◌, ◌++◌, ap, subst}
 use Rattle.std.specs.Prelude.{Result, IfOk, if◌then◌else◌}
 use Rattle.sc_schema.specs.declared.trees.TExpr.{TExpr}
 use Rattle.sc_schema.specs.declared.trees.TExpr.TheVariants as ex
 use Rattle.sc_schema.specs.Trees as plain
 use Rattle.sc_schema.specs.Schema.{Schema}
 use Rattle.sc_schema.specs.Views.{expr_of}
-use Rattle.sc_formula.specs.Trees.{Formula, both, either}
-use Rattle.sc_duty.specs.Cases.{Condition, Cases, at_term, held, truth, among, none, some, choice, over_ends, continued, at_ends, of_term, of_option, condition_of, is_truth, some_of, chosen}
+use Rattle.sc_formula.specs.Trees.{Formula}
+use Rattle.sc_duty.specs.Cases.{Condition, Cases, at_term, held, truth, among, none, some, choice, over_ends, continued, at_ends, of_term, of_option, condition_of, is_truth, some_of}
 use Rattle.sc_duty.specs.Formulas.{Written, Scene, cases_of, field_cases}
 use Rattle.sc_writer.specs.declared.make_err.MakeErr.{MakeErr}
 use Rattle.sc_writer.specs.declared.writer.Writer.{Writer}
-use Rattle.sc_writer.specs.Made.{Makes, MakesFor}
-use Rattle.sc_builder.proofs.Forms.{Get_is, MatchE_is, SomeLit_is, IfE_is}
+use Rattle.sc_writer.specs.Made.{Makes}
+use Rattle.sc_builder.proofs.Forms.{Get_is, MatchE_is, SomeLit_is}
 
 pub ok_same : {A E : Type 0} (r : Result A E) (x y : A) → x ≡ y → IfOk r (λ b. b ≡ x) → IfOk r (λ b. b ≡ y)
 ok_same {A = A} r x y same h = let P : A → Type 0 = λ v. IfOk r (λ b. b ≡ v) in subst P same h

@@ -1,6 +1,6 @@
 -- Which added field is written out.
-use Rattle.std.proofs.Common.{◌≡◌, ℕ, suc, zero, ◌+◌, ◌-◌, ◌<◌, ◌≤◌, Bool, true, false, refl, sym, ◌∙◌, List, [], ◌∷◌, ◌++◌, length, take, drop, get_or, ap, subst, arith, rules, add-one}
-use Rattle.std.specs.Prelude.{map, Option, Some, None, fold, slice_get, ◌&&◌, ◌==◌, if◌then◌else◌}
+use Rattle.std.proofs.Common.{◌≡◌, ℕ, suc, zero, ◌+◌, ◌-◌, ◌<◌, ◌≤◌, true, false, refl, sym, ◌∙◌, List, [], ◌∷◌, ◌++◌, length, take, get_or, ap, arith, rules, add-one}
+use Rattle.std.specs.Prelude.{map, Some, None, fold, slice_get, ◌&&◌, ◌==◌, if◌then◌else◌}
 use Rattle.std.proofs.lemmas.Option.{same_Some, slice_get-map, slice_get-get_or}
 use Rattle.std.specs.Option.{option_map}
 use Rattle.std.proofs.lemmas.List.Sums.{fold-append}

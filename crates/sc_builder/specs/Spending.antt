@@ -1,5 +1,5 @@
 -- What a writer spends where nobody asks for the formulas.
-use Rattle.std.specs.Prelude.{◌≡◌, ℕ, ◌+◌, List, map, sum, Result, Ok, Err}
+use Rattle.std.specs.Prelude.{◌≡◌, ℕ, ◌+◌, map, sum, Result, Ok, Err}
 use Rattle.std.specs.List.{range_with_len}
 use Rattle.sc_schema.specs.Schema.{Schema}
 use Rattle.sc_schema.specs.Trees.{Init}

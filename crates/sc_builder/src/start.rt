@@ -1,17 +1,17 @@
 //! The schema of start databases, and added fields.
 
-ghost use Rattle.std.specs.Prelude.{◌≡◌, ◌==◌, false, find};
-ghost use Rattle.std.specs.Option.{option_copied, option_map, option_map_or};
+ghost use Rattle.std.specs.Prelude.{◌≡◌, ◌&&◌, ◌==◌, find};
+ghost use Rattle.std.specs.Option.{option_copied, option_map};
 ghost use Rattle.sc_schema.specs.Schema.{Schema as AnySchema};
-ghost use Rattle.sc_duty.specs.Cases.{is_truth_type};
+ghost use Rattle.sc_duty.specs.Cases.{holds_truth, is_truth_type};
 ghost use Rattle.sc_schema.specs.SchemaViews.{schema_of};
-ghost use Rattle.sc_schema.specs.Schema.{type_of};
+ghost use Rattle.sc_schema.specs.Schema.{known_type, type_of};
 ghost use Rattle.sc_duty.specs.Structures.{sort_of, function_of, relation_of};
 ghost use Rattle.sc_numbering.specs.Numbers.{numbers_of};
 ghost use Rattle.sc_writer.specs.declared.writer.Mode.TheVariants.{Build};
 
 use sc_numbering::Numbering;
-use sc_schema::{FieldInfo, FieldNo, ModelInfo, ModelNo, Schema, TBase, TInit, TTy};
+use sc_schema::{FieldInfo, FieldNo, ModelInfo, ModelNo, RemovedField, Schema, TBase, TInit, TTy};
 use sc_writer::Mode;
 use std::rc::Rc;
 
@@ -70,26 +70,55 @@ impl Start<'_> {
         }
     }
 
-    /// Whether a field holds truth values.
+    /// Whether a field holds truth values, or did before a command removed it.
     pub fn is_truth_field(&self, m: ModelNo, f: FieldNo) -> bool
-        ensures { let s = schema_of self.now.schema.now in
-            result ≡ option_map_or (is_truth_type s) (type_of s m f) false }
+        ensures { result ≡ holds_truth (schema_of self.now.schema.now) m f }
     {
-        match model_at(self.schema.models.as_slice(), m) {
-            Some(model) => is_truth_field_in(model, f),
+        match known_type(self.schema, m, f) {
+            Some(ty) => is_truth_type(ty),
             None => false,
         }
     }
 }
 
-/// Whether a field of a model holds truth values.
-fn is_truth_field_in(model: &ModelInfo, f: FieldNo) -> bool
-    ensures { (s : AnySchema) → result ≡ option_map_or (is_truth_type s)
-        (option_map (λ i. i.ty) (find (λ i. i.number == f) model.now.fields)) false }
+/// The type of a field that the schema has or had.
+fn known_type(schema: &Schema, m: ModelNo, f: FieldNo) -> Option<TTy>
+    ensures { result ≡ known_type (schema_of schema.now) m f }
+{
+    match type_of(schema, m, f) {
+        Some(ty) => Some(ty),
+        None => removed_type(schema.removed.as_slice(), m, f),
+    }
+}
+
+/// The type of a field of the schema.
+fn type_of(schema: &Schema, m: ModelNo, f: FieldNo) -> Option<TTy>
+    ensures { result ≡ type_of (schema_of schema.now) m f }
+{
+    match model_at(schema.models.as_slice(), m) {
+        Some(model) => type_in(model, f),
+        None => None,
+    }
+}
+
+/// The type of a field of a model.
+fn type_in(model: &ModelInfo, f: FieldNo) -> Option<TTy>
+    ensures { result ≡ option_map (λ i. i.ty) (find (λ i. i.number == f) model.now.fields) }
 {
     match field_at(model.fields.as_slice(), f) {
-        Some(field) => is_truth_type(field.ty),
-        None => false,
+        Some(field) => Some(field.ty),
+        None => None,
+    }
+}
+
+/// The type of a field that commands removed.
+fn removed_type(removed: &[RemovedField], m: ModelNo, f: FieldNo) -> Option<TTy>
+    ensures { result ≡ option_map (λ r. r.ty)
+        (find (λ r. r.model == m && r.field == f) removed.now) }
+{
+    match removed_at(removed, m, f) {
+        Some(field) => Some(field.ty),
+        None => None,
     }
 }
 
@@ -105,6 +134,14 @@ fn field_at(fields: &[FieldInfo], number: FieldNo) -> Option<&FieldInfo>
     ensures { option_copied result ≡ find (λ f. f.number == number) fields.now }
 {
     fields.iter().find(|f| f.number == number)
+}
+
+/// What was removed last under these numbers.
+fn removed_at(removed: &[RemovedField], m: ModelNo, f: FieldNo) -> Option<&RemovedField>
+    ensures { option_copied result
+        ≡ find (λ r. r.model == m && r.field == f) removed.now }
+{
+    removed.iter().find(|r| r.model == m && r.field == f)
 }
 
 /// Whether values of the type are truth values, or options of such.

@@ -10,6 +10,7 @@ use Rattle.sc_schema.specs.declared.schemas.StaticInfo as code_static
 use Rattle.sc_schema.specs.declared.schemas.FieldInfo as code_field
 use Rattle.sc_schema.specs.declared.schemas.ModelInfo as code_model
 use Rattle.sc_schema.specs.declared.schemas.Schema as code_schema
+use Rattle.sc_schema.specs.declared.schemas.RemovedField.{RemovedField}
 use Rattle.sc_schema.specs.Trees.{Policy, Init}
 use Rattle.sc_schema.specs.Schema.{StaticInfo, FieldInfo, ModelInfo, Added, Schema}
 use Rattle.sc_schema.specs.SchemaViews.{added_of, static_info_of, field_info_of, model_info_of, schema_of}
@@ -55,6 +56,14 @@ pub models_replaced : (copy s : code_schema.Schema) (models : List code_model.Mo
 unfolding plain_of
 models_replaced copy s models seen same are =
     ap (λ (l : List ModelInfo). record (schema_of copy) { models = l }) are ∙ ap (λ (t : Schema). record t { models = seen }) same
+
+-- and what is removed with them
+pub removed_replaced : (copy : code_schema.Schema) (s : Schema) (models : List code_model.ModelInfo) (seen : List ModelInfo) (removed : List RemovedField) (all : List RemovedField)
+    → plain_of (record copy { models = models }) ≡ record s { models = seen } → removed ≡ all
+    → plain_of (record copy { models = models; removed = removed }) ≡ record s { models = seen; removed = all }
+unfolding plain_of
+removed_replaced copy s models seen removed all same is =
+    ap (λ (t : Schema). record t { removed = removed }) same ∙ ap (λ (r : List RemovedField). record s { models = seen; removed = r }) is
 
 pub statics_replaced : (copy s : code_schema.Schema) (statics : List code_static.StaticInfo) (seen : List StaticInfo)
     → schema_of copy ≡ schema_of s → map static_info_of statics ≡ seen → plain_of (record copy { statics = statics }) ≡ record (plain_of s) { statics = seen }

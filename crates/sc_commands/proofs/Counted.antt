@@ -1,5 +1,5 @@
--- The fields of a model, counted in a schema as the code has it and in its plain data.
-use Rattle.std.proofs.Common.{◌≡◌, ◌==◌, ℕ, length, refl, sym, ap, ◌∙◌}
+-- The fields of a model, and how many they are, in a schema as the code has it and in its plain data.
+use Rattle.std.proofs.Common.{◌≡◌, ◌==◌, ℕ, [], length, map, refl, sym, ap, ◌∙◌}
 use Rattle.std.specs.Prelude.{Option, Some, None}
 use Rattle.std.specs.List.{find}
 use Rattle.std.specs.Option.{option_map_or}
@@ -7,6 +7,7 @@ use Rattle.std.proofs.lemmas.List.{length-map}
 use Rattle.sc_schema.specs.declared.schemas.ModelInfo as code_model
 use Rattle.sc_schema.specs.declared.schemas.Schema as code_schema
 use Rattle.sc_schema.specs.Schema.{ModelInfo}
+use Rattle.sc_schema.specs.Commands.{fields_in}
 use Rattle.sc_schema.specs.SchemaViews.{field_info_of, model_info_of}
 use Rattle.sc_typing.specs.Names.{plain_of}
 use Rattle.sc_typing.proofs.Lookups.{find_or_seen}
@@ -22,3 +23,10 @@ fields_counted s m found e =
     counted-seen found
     ∙ ap (λ o. option_map_or (λ (info : code_model.ModelInfo). length (model_info_of info).fields) o 0) e
     ∙ sym (find_or_seen model_info_of (λ (info : ModelInfo). length info.fields) 0 (λ (info : ModelInfo). info.number == m) s.models)
+
+pub fields_found : (s : code_schema.Schema) (m : ℕ) (found : Option code_model.ModelInfo) → found ≡ find (λ (info : code_model.ModelInfo). info.number == m) s.models
+    → option_map_or (λ (info : code_model.ModelInfo). map field_info_of info.fields) found [] ≡ fields_in (plain_of s) m
+unfolding plain_of
+fields_found s m found e =
+    ap (λ o. option_map_or (λ (info : code_model.ModelInfo). map field_info_of info.fields) o []) e
+    ∙ sym (find_or_seen model_info_of (λ (info : ModelInfo). info.fields) [] (λ (info : ModelInfo). info.number == m) s.models)

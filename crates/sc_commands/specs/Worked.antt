@@ -56,6 +56,7 @@ app = record {
   next_model = 2;
   next_field = 5;
   added = [];
+  removed = [];
 }
 
 -- as many statics as may be

@@ -13,6 +13,7 @@ ghost use Rattle.sc_commands.specs.Changes.{with_added};
 use crate::change::Change;
 use crate::changes::{changed, without_model, without_static};
 use crate::parts::Given;
+use crate::removed::removed_with_field;
 use sc_schema::{FieldInfo, FieldNo, ModelInfo, ModelNo, Schema, StaticInfo, TCommand, TInit};
 use sc_specs::{copied, push_model, push_static};
 use sc_typing::TypeErr;
@@ -102,7 +103,10 @@ fn after_removed_field(
     ensures { IfOk result (λ after. plain_of after
         ≡ effect.schema_after (plain_of schema.now) (effect.remove_field model field)) }
 {
-    changed(alloc, schema, model, &Change::WithoutField(field))
+    let removed = removed_with_field(alloc, schema, model, field)?;
+    let mut after = changed(alloc, schema, model, &Change::WithoutField(field))?;
+    after.removed = removed;
+    Ok(after)
 }
 
 /// The schema with the policies of a field that are given.

@@ -10,6 +10,7 @@ ghost use Rattle.sc_commands.specs.Changes.{as_principal, change_of, changed_sch
 
 use crate::change::Change;
 use crate::parts::Given;
+use crate::removed::removed_with_model;
 use sc_schema::{FieldInfo, FieldNo, ModelInfo, ModelNo, Schema, StaticInfo, StaticNo, TPolicy};
 use sqlite_items::Items;
 use std::alloc::{AllocError, Global};
@@ -248,8 +249,10 @@ pub fn without_model(alloc: Global, schema: &Schema, number: ModelNo) -> Result<
         ≡ effect.schema_after (plain_of schema.now) (effect.delete_model number)) }
 {
     let models = models_without(alloc, schema.models.as_slice(), number)?;
+    let removed = removed_with_model(alloc, schema, number)?;
     let mut after = schema.copy(alloc)?;
     after.models = models;
+    after.removed = removed;
     Ok(after)
 }
 

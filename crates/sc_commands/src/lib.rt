@@ -9,6 +9,7 @@
 //! | `parts` | names and parts of commands |
 //! | `resolve` | what a command is over the schema before it |
 //! | `change` | `Change`, what a command changes of one model |
+//! | `removed` | fields that commands remove |
 //! | `changes` | what commands change of a schema |
 //! | `after` | the schema after a command |
 //! | `laws` | laws over the definitions |
@@ -19,6 +20,7 @@ mod change;
 mod changes;
 mod laws;
 mod parts;
+mod removed;
 mod resolve;
 mod script_err;
 mod thing;

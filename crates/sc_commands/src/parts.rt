@@ -57,7 +57,7 @@ pub fn known_field(schema: &Schema, model: ModelNo, x: &Named) -> Result<FieldNo
 }
 
 /// The model of this number.
-fn model_at(models: &[ModelInfo], number: ModelNo) -> Option<&ModelInfo>
+pub fn model_at(models: &[ModelInfo], number: ModelNo) -> Option<&ModelInfo>
     ensures { option_copied result ≡ find (λ m. m.number == number) models.now }
 {
     models.iter().find(|m| m.number == number)

@@ -37,7 +37,7 @@ abbrev team : ModelInfo
 team = model 1 (codes "Team") (field 5 (codes "members") (Set 0) ∷ field 6 (codes "lead") (Opt (base.Id 0)) ∷ [])
 
 abbrev pub company : Schema
-company = record { statics = []; models = user ∷ team ∷ []; next_static = 0; next_model = 2; next_field = 7; added = [] }
+company = record { statics = []; models = user ∷ team ∷ []; next_static = 0; next_model = 2; next_field = 7; added = []; removed = [] }
 
 -- ---- what is written
 

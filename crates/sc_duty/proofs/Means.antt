@@ -2,13 +2,13 @@
 use Rattle.std.proofs.Common.{◌≡◌, ℕ, zero, suc, Bool, true, false, List, [], ◌∷◌, ◌++◌, length, refl, ap, sym, ◌∙◌, subst, ◌⊎◌, inl, inr}
 use Rattle.std.specs.Prelude.{Option, Some, ℤ, ◌==◌, slice_get, slice_index_or}
 use Rattle.std.specs.List.{list_any}
-use Rattle.std.specs.Option.{option_map_or}
+use Rattle.std.specs.Option.{option_map_or, option_or}
 use Rattle.std.proofs.lemmas.List.{append_assoc, append-nil}
 use Rattle.sc_schema.specs.declared.types.TBase.{TBase}
 use Rattle.sc_schema.specs.declared.types.TBase.TheVariants as base
 use Rattle.sc_schema.specs.declared.types.TTy.{TTy}
 use Rattle.sc_schema.specs.declared.types.TTy.TheVariants.{Plain, Set, Opt}
-use Rattle.sc_schema.specs.Schema.{Schema, type_of}
+use Rattle.sc_schema.specs.Schema.{Schema, type_of, removed_type}
 use Rattle.sc_schema.specs.Typing.{Scope}
 use Rattle.sc_data.specs.declared.principals.Principal.{Principal}
 use Rattle.sc_data.specs.declared.principals.Principal.TheVariants as who
@@ -22,7 +22,7 @@ use Rattle.sc_formula.specs.Trees.{Term, app, has}
 use Rattle.sc_formula.specs.Truth.{value_of}
 use Rattle.sc_formula.specs.Truth as formula
 use Rattle.sc_duty.specs.Structures.{function_of, relation_of, element_of}
-use Rattle.sc_duty.specs.Cases.{Condition, atom, Cases, at_term, held, truth, among, none, some, choice, is_present, is_truth_type, is_truth}
+use Rattle.sc_duty.specs.Cases.{Condition, atom, Cases, at_term, held, truth, among, none, some, choice, is_present, is_truth_type, holds_truth, is_truth}
 use Rattle.sc_duty.specs.Formulas.{Who, static, record_at, of_each_kind, Scene}
 
 -- ---- more variables
@@ -43,12 +43,16 @@ module _ (b : Schema) where
   -- the cases have the type
   abbrev pub HasType : TTy → Cases → Type 0
   HasType t (at_term u) = (p : TBase) × (t ≡ Plain p) × (is_truth_type b t ≡ false)
-  HasType t (held m f u) = option_map_or (is_truth_type b) (type_of b m f) false ≡ is_truth_type b t
+  HasType t (held m f u) = holds_truth b m f ≡ is_truth_type b t
   HasType t (truth c) = t ≡ Plain base.Bool
   HasType t (among k) = (n : ℕ) × (t ≡ Set n)
   HasType t none = (p : TBase) × (t ≡ Opt p)
   HasType t (some c) = (p : TBase) × (t ≡ Opt p) × HasType (Plain p) c
   HasType t (choice c x y) = HasType t x × HasType t y
+
+  -- the type of a field tells whether it holds truth values
+  pub truth-of-type : (m f : ℕ) (t : TTy) → type_of b m f ≡ Some t → holds_truth b m f ≡ is_truth_type b t
+  truth-of-type m f t h = ap (λ o. option_map_or (is_truth_type b) (option_or o (removed_type b m f)) false) h
 
   -- the first end tells whether a value is a truth value
   pub shows-truth : (p : TBase) (c : Cases) → HasType (Plain p) c → is_truth b c ≡ is_truth_type b (Plain p)

@@ -2,21 +2,20 @@
 use Rattle.std.proofs.Common.{◌≡◌, ℕ, zero, suc, ◌<◌, Bool, true, false, not, ◌||◌, List, [], ◌∷◌, ◌++◌, length, refl, ap, sym, ◌∙◌, subst}
 use Rattle.std.specs.Prelude.{Some, slice_get, slice_index_or, fold, if◌then◌else◌}
 use Rattle.std.specs.List.{AllByRecursion}
-use Rattle.std.specs.Option.{option_map_or}
 use Rattle.sc_tree.specs.declared.exprs.CmpOp.{CmpOp}
 use Rattle.sc_tree.specs.declared.exprs.CmpOp.TheVariants.{Eq, Ne, Lt, Le, Gt, Ge}
 use Rattle.sc_schema.specs.declared.types.TBase.{TBase}
 use Rattle.sc_schema.specs.declared.types.TBase.TheVariants as base
 use Rattle.sc_schema.specs.declared.types.TTy.{TTy}
 use Rattle.sc_schema.specs.declared.types.TTy.TheVariants.{Plain, Set, Opt}
-use Rattle.sc_schema.specs.Schema.{Schema, type_of}
+use Rattle.sc_schema.specs.Schema.{Schema}
 use Rattle.sc_schema.specs.Typing.{Scope, MaySign}
 use Rattle.sc_eval.proofs.Agreement.{ap2}
 use Rattle.sc_formula.specs.declared.structure.Signature.{Signature}
 use Rattle.sc_formula.specs.Trees.{Term, app, Formula, no, equal, less, has, flag, present}
 use Rattle.sc_formula.specs.Over.{HasRange, AreComparable, IsOver}
 use Rattle.sc_duty.specs.Structures.{base_range, function_of, relation_of}
-use Rattle.sc_duty.specs.Cases.{Condition, constant, atom, and_if, or_if, exists_if, all_if, any_if, chosen, same_condition, Cases, at_term, held, truth, among, none, some, choice, continued, at_ends, of_term, at_terms, is_present, of_option, end_holds, condition_of, end_has, has_term, same_term, less_term, is_truth_type, is_truth, some_of}
+use Rattle.sc_duty.specs.Cases.{Condition, constant, atom, and_if, or_if, exists_if, all_if, any_if, chosen, same_condition, Cases, at_term, held, truth, among, none, some, choice, continued, at_ends, of_term, at_terms, is_present, of_option, end_holds, condition_of, end_has, has_term, same_term, less_term, is_truth_type, holds_truth, is_truth, some_of}
 use Rattle.sc_duty.specs.Cases as cases
 use Rattle.sc_duty.specs.Formulas.{Scene, Who, static, record_at, of_each_kind}
 use Rattle.sc_duty.proofs.Means.{IsPrefix, prefix-itself, prefix-along, HasType, shows-truth, truth-type, option-type}
@@ -72,7 +71,7 @@ module _ (b : Schema) (g : Signature) where
 
   abbrev pub OverCases : List ℕ → TTy → Cases → Type 0
   OverCases xs t (at_term u) = (p : TBase) × (t ≡ Plain p) × (is_truth_type b (Plain p) ≡ false) × HasTerm xs p u
-  OverCases xs t (held m f u) = (option_map_or (is_truth_type b) (type_of b m f) false ≡ is_truth_type b t) × OverField xs t m f u
+  OverCases xs t (held m f u) = (holds_truth b m f ≡ is_truth_type b t) × OverField xs t m f u
   OverCases xs t (truth c) = (t ≡ Plain base.Bool) × OverCondition xs c
   OverCases xs t (among k) = (n : ℕ) × (t ≡ Set n) × OverMembers xs n k
   OverCases xs t none = (p : TBase) × (t ≡ Opt p)

@@ -36,7 +36,7 @@ use Rattle.sc_formula.specs.Trees as tree
 use Rattle.sc_formula.specs.Over.{HasRange, IsOver, IsClosedTerm, IsClosed}
 use Rattle.sc_duty.specs.declared.duty.Duty.{Duty}
 use Rattle.sc_duty.specs.Structures.{before, Place, places_in, is_set, functions_of, relations_of, is_place, sort_of, function_of, relation_of, range_of, target_of, function_signature, relation_signature}
-use Rattle.sc_duty.specs.Cases.{Cases, held, constant, is_truth_type}
+use Rattle.sc_duty.specs.Cases.{Cases, held, constant}
 use Rattle.sc_duty.specs.Formulas.{Who, static, record_at, Written, nothing_written, with_added, written_out, field_cases, init_cases, is_allowed}
 use Rattle.sc_duty.specs.Reach.{init_reach}
 use Rattle.sc_duty.specs.Duties.{written_at, has_right, for_some, for_some_principal, gain_formula_of, leak_formula, added_formula, flow_formula_of, formula_of}
@@ -45,7 +45,7 @@ use Rattle.sc_duty.specs.Flows.{IsFlowDuty}
 use Rattle.sc_duty.specs.Listed.{IsUseDuty, IsObligation}
 use Rattle.sc_duty.specs.Over.{IsSignatureOf, FormulasAreOver}
 use Rattle.sc_duty.proofs.Fitting.{sort-within}
-use Rattle.sc_duty.proofs.Means.{IsPrefix, prefix-more, prefix-itself, prefix-along}
+use Rattle.sc_duty.proofs.Means.{IsPrefix, prefix-more, prefix-itself, prefix-along, truth-of-type}
 use Rattle.sc_duty.proofs.Starting.{place, Placed, placed, find-kept}
 use Rattle.sc_duty.proofs.Adding.{written-more, written-kept, none-written, added-split}
 use Rattle.sc_duty.proofs.Shown.{has-field, AddsNothing, changed-there, model-there, field-there}
@@ -113,13 +113,13 @@ module _ (b : Schema) (g : Signature) (of : IsSignatureOf b g) where
 
   field-over : (m f : ℕ) (ty : TTy) → type_of b m f ≡ Some ty → (xs : List ℕ) (u : Term) → HasTerm b g xs (base.Id m) u → OverCases b g xs ty (held m f u)
   field-over m f (Plain p) h xs u it =
-      (ap (λ o. option_map_or (is_truth_type b) o false) h, λ zs more. function-over m f (Plain p) (placed b m f (Plain p) h) refl xs u it zs more)
+      (truth-of-type b m f (Plain p) h, λ zs more. function-over m f (Plain p) (placed b m f (Plain p) h) refl xs u it zs more)
   field-over m f (Opt p) h xs u it =
-      (ap (λ o. option_map_or (is_truth_type b) o false) h, λ zs more. function-over m f (Opt p) (placed b m f (Opt p) h) refl xs u it zs more)
+      (truth-of-type b m f (Opt p) h, λ zs more. function-over m f (Opt p) (placed b m f (Opt p) h) refl xs u it zs more)
   field-over m f (Set n) h xs u it =
       let q = placed b m f (Set n) h in
       let found = find-kept (is_place m f) (λ (u : Place). is_set u.field.ty) (flat_map places_in b.models) (place m q.field) q.found (ap is_set q.ty) in (
-        ap (λ o. option_map_or (is_truth_type b) o false) h,
+        truth-of-type b m f (Set n) h,
         λ zs more w at sign.
             atom-over g zs sign (has (relation_of b m f) u w) (
               relation_signature b (place m q.field),

@@ -26,10 +26,9 @@ use Rattle.sc_formula.specs.Trees.{Term, has, present}
 use Rattle.sc_formula.specs.Truth.{element_of, entry, entry_at, relates, both_pass, size_of}
 use Rattle.sc_duty.specs.Structures.{before, Place, places_in, is_set, functions_of, relations_of, is_place, sort_of, function_of, relation_of, base_target, target_of, entry_of, entries_of, pairs_of, structure_of}
 use Rattle.sc_duty.specs.Structures as structure
-use Rattle.sc_duty.specs.Cases.{is_truth_type}
 use Rattle.sc_duty.specs.Formulas.{nothing_written}
 use Rattle.sc_duty.proofs.Signed.{atom-truth}
-use Rattle.sc_duty.proofs.Means.{IsPrefix, prefix-itself, IsEntry, IsTermOf, Means}
+use Rattle.sc_duty.proofs.Means.{IsPrefix, prefix-itself, truth-of-type, IsEntry, IsTermOf, Means}
 use Rattle.sc_duty.proofs.Ends.{same-element}
 use Rattle.sc_duty.proofs.Meanings.{Shows}
 
@@ -353,7 +352,7 @@ module _ (s : Schema) (d : Database) (is : IsDatabase s d) where
   pub shows-itself : Shows s s nothing_written (structure_of s d) d d
   shows-itself = record {
     fields = shown;
-    types = λ m f t h u. ap (λ o. option_map_or (is_truth_type s) o false) h;
+    types = λ m f t h u. truth-of-type s m f t h;
     ids = λ m model. refl;
     sizes = sorted;
     elements = λ m model. rising-place (ids_of d m) (ids-rise m model);

@@ -7,7 +7,7 @@ use Rattle.sc_tree.specs.declared.exprs.CmpOp.TheVariants.{Eq, Ne, Lt, Le, Gt, G
 use Rattle.sc_schema.specs.declared.types.TBase.TheVariants as base
 use Rattle.sc_schema.specs.declared.types.TTy.{TTy}
 use Rattle.sc_schema.specs.declared.types.TTy.TheVariants.{Plain, Set, Opt}
-use Rattle.sc_schema.specs.Schema.{Schema, type_of}
+use Rattle.sc_schema.specs.Schema.{Schema, known_type}
 use Rattle.sc_formula.specs.Trees.{Term, app, Formula, yes, no, equal, less, has, flag, present, negation, both, either, exists, forall}
 use Rattle.sc_duty.specs.Structures.{function_of, relation_of}
 
@@ -158,10 +158,14 @@ module _ (s : Schema) where
   is_truth_type (Opt base.Text) = false
   is_truth_type (Opt (base.Id m)) = false
 
+  -- whether the field holds truth values, or did before a command removed it
+  abbrev pub holds_truth : ℕ → ℕ → Bool
+  holds_truth m f = option_map_or is_truth_type (known_type s m f) false
+
   -- whether a value is a truth value, as its first end shows
   abbrev pub is_truth : Cases → Bool
   is_truth (at_term t) = false
-  is_truth (held m f t) = option_map_or is_truth_type (type_of s m f) false
+  is_truth (held m f t) = holds_truth m f
   is_truth (truth c) = true
   is_truth (among members) = false
   is_truth none = false

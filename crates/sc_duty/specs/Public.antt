@@ -1,6 +1,6 @@
 -- The words that speak of obligations as formulas.
 pub use Rattle.sc_duty.specs.Structures.{before, Place, functions_of, relations_of, sort_of, function_of, relation_of, sorts_of, function_signatures, relation_signatures, element_of, entry_of, structure_of}
-pub use Rattle.sc_duty.specs.Cases.{Condition, Cases, over_ends, continued, at_ends, at_terms, condition_of, has_term}
+pub use Rattle.sc_duty.specs.Cases.{Condition, Cases, over_ends, continued, at_ends, at_terms, condition_of, has_term, holds_truth}
 pub use Rattle.sc_duty.specs.Formulas.{Who, Scene, Written, nothing_written, written_out, cases_of, is_in, is_allowed, init_cases}
 pub use Rattle.sc_duty.specs.Reach.{reach, set_reach, init_reach}
 pub use Rattle.sc_duty.specs.Duties.{obligations_of, gain_formula_of, flow_formula_of, formula_of}

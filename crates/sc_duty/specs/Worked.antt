@@ -47,6 +47,7 @@ start = record {
   next_model = 1;
   next_field = 7;
   added = [];
+  removed = [];
 }
 
 abbrev pub after_all : Schema → List Command → List Schema

@@ -134,6 +134,7 @@ start-with s all last = record {
   next_model = last.next_model;
   next_field = last.next_field;
   added = [];
+  removed = [];
 }
 
 whole-is : (s : Schema) (script : written_script.Script) (all : Steps) → IsSteady s → s.added ≡ [] → length script.commands ≤ most_commands → AllByRecursion CommandHasLiterals all.commands

@@ -51,3 +51,4 @@ pub record IsAnew (s anew : Schema) : Type 0 where
   pub next_model : anew.next_model ≡ length s.models
   pub next_field : anew.next_field ≡ field_count s.models
   pub added : anew.added ≡ []
+  pub removed : anew.removed ≡ []

@@ -84,6 +84,7 @@ record IsStaged (s anew : Schema) : Type 0 where
   pub next_model : anew.next_model ≡ length s.models
   pub next_field : anew.next_field ≡ field_count s.models
   pub added : anew.added ≡ []
+  pub removed : anew.removed ≡ []
 
 staged : (sizes : Sizes) (s anew : Schema) → typed_spec sizes (written_spec s) ≡ Ok anew → IsStaged s anew
 unfolding typed_spec resolved_spec with_models
@@ -122,6 +123,7 @@ staged sizes s anew e =
       next_model = omega (arith, Found.1.next_model, first, many.0);
       next_field = omega (arith, Found.1.next_field, from, many.1);
       added = Found.1.added ∙ S.1.added;
+      removed = Found.1.removed ∙ S.1.removed;
     } in
     subst (IsStaged s) (ok-same found anew e2) there
 
@@ -182,6 +184,7 @@ module _ (s anew : Schema) (proper : IsProper s) (k : IsStaged s anew) where
     next_model = k.next_model;
     next_field = k.next_field;
     added = k.added;
+    removed = k.removed;
   }
 
   -- ---- and its policies

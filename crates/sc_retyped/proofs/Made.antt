@@ -46,6 +46,7 @@ pub record AreStaticsMade (u out : Schema) (xs ys : List StaticInfo) : Type 0 wh
   pub next_model : out.next_model ≡ u.next_model
   pub next_field : out.next_field ≡ u.next_field
   pub added : out.added ≡ u.added
+  pub removed : out.removed ≡ u.removed
 
 abbrev static_names : List StaticInfo → List Named
 static_names xs = map (λ (a : StaticInfo). named a.name) xs
@@ -59,6 +60,7 @@ no-statics u = record {
   next_model = refl;
   next_field = refl;
   added = refl;
+  removed = refl;
 }
 
 pub statics-made : (xs : List StaticInfo) (u out : Schema) → in_turn with_static u (static_names xs) ≡ Ok out → (ys : List StaticInfo) × AreStaticsMade u out xs ys
@@ -79,6 +81,7 @@ statics-made (x ∷ xs) u out e =
         next_model = k.next_model;
         next_field = k.next_field;
         added = k.added;
+        removed = k.removed;
       },
     )
 
@@ -90,6 +93,7 @@ pub record IsGrown (u out : Schema) (is : List ModelInfo) : Type 0 where
   pub next_model : out.next_model ≡ u.next_model + length is
   pub next_field : out.next_field ≡ u.next_field + field_count is
   pub added : out.added ≡ u.added
+  pub removed : out.removed ≡ u.removed
 
 none-grown : (u : Schema) → IsGrown u u []
 none-grown u = record {
@@ -99,6 +103,7 @@ none-grown u = record {
   next_model = omega arith;
   next_field = omega arith;
   added = refl;
+  removed = refl;
 }
 
 grown-more : (u out : Schema) (i : ModelInfo) (is : List ModelInfo) → IsGrown (with_model u i) out is → IsGrown u out (i ∷ is)
@@ -109,6 +114,7 @@ grown-more u out i is k = record {
   next_model = omega (arith, k.next_model);
   next_field = omega (arith, k.next_field, sum_by-cons (λ (m : ModelInfo). length m.fields) i is);
   added = k.added;
+  removed = k.removed;
 }
 
 pub models-made : (stage : Stage) (over u : Schema) (defs : List ModelDef) (out : Schema) → in_turn (with_typed stage over) u defs ≡ Ok out

@@ -1,7 +1,6 @@
 -- By induction on an expression and a set that are well typed: with other numbers of the same things they become formulas of the same sizes.
-use Rattle.std.proofs.Common.{◌≡◌, ℕ, suc, Bool, true, false, not, [], ◌∷◌, ◌++◌, refl, ap, sym, ◌∙◌, arith}
+use Rattle.std.proofs.Common.{◌≡◌, ℕ, suc, Bool, true, not, [], ◌∷◌, ◌++◌, refl, ap, sym, ◌∙◌, arith}
 use Rattle.std.specs.Prelude.{Some, ◌==◌, if◌then◌else◌}
-use Rattle.std.specs.Option.{option_map_or}
 use Rattle.std.proofs.lemmas.Bool.{eq-eqb}
 use Rattle.sc_tree.specs.declared.exprs.FilterOp.{FilterOp}
 use Rattle.sc_tree.specs.declared.exprs.FilterOp.TheVariants.{Cmp, Has}
@@ -18,6 +17,7 @@ use Rattle.sc_duty.specs.Structures.{sort_of}
 use Rattle.sc_duty.specs.Cases.{Condition, constant, atom, and_if, all_if, chosen, same_condition, Cases, at_term, none, choice, of_term, at_terms, of_option, condition_of, has_term, same_term, less_term, is_truth_type}
 use Rattle.sc_duty.specs.Formulas.{Who, record_at, of_each_kind, of_model, is_static, Scene, nothing_written, field_cases, passes, next_variable, cases_of, is_in, items_in, filters_at}
 use Rattle.sc_duty.specs.Sizes.{term_size, size, row, other, policy_size_over}
+use Rattle.sc_duty.proofs.Means.{truth-of-type}
 use Rattle.sc_retyping.proofs.Numbers.{expr_by, set_by, items_by, filters_by, policy_by}
 use Rattle.sc_retyping.proofs.Alike.{HaveSameSize, HaveSameSizes, constant-size, atom-size, and-size, exists-size, chosen-size, all-size, any-size, AreAlike, ends-size, ends-alike, term-end, terms-size, option-end, condition-size, has-size, same-size, equal-size, less-size, some-alike, compared-size, AreScenes, scene-at, scene-more}
 
@@ -58,7 +58,7 @@ module _ (s t : Schema) (model : ℕ → ℕ) (field : ℕ → ℕ → ℕ) (sta
     field m f,
     v,
     refl,
-    ap (λ o. option_map_or (is_truth_type s) o false) is ∙ sym (has_fields m f ty is).2 ∙ sym (ap (λ o. option_map_or (is_truth_type t) o false) (has_fields m f ty is).1),
+    truth-of-type s m f ty is ∙ sym (has_fields m f ty is).2 ∙ sym (truth-of-type t (model m) (field m f) (has_fields m f ty is).0 (has_fields m f ty is).1),
     e,
   )
 

@@ -1,8 +1,10 @@
 -- Commands, and the schema after one.
 use Rattle.std.specs.Prelude.{◌≡◌, ℕ, ◌+◌, true, false, not, ◌==◌, IsTrue, is_some, ◌||◌, List, [], ◌∷◌, ◌++◌, Option, None, Some, map, filter, length, if◌then◌else◌}
+use Rattle.std.specs.Option.{option_map_or}
 use Rattle.sc_ast.specs.Words.{IsText}
+use Rattle.sc_schema.specs.declared.schemas.RemovedField.{RemovedField}
 use Rattle.sc_schema.specs.Trees.{Policy, Init}
-use Rattle.sc_schema.specs.Schema.{StaticInfo, FieldInfo, ModelInfo, Schema, field_of, static_of, is_principal_model}
+use Rattle.sc_schema.specs.Schema.{StaticInfo, FieldInfo, ModelInfo, Schema, model_of, field_of, static_of, is_principal_model}
 use Rattle.sc_schema.specs.Typing.{HasModel, IsInit}
 
 -- A policy that is not given stays. Of two, read stands before write, and create before delete.
@@ -45,10 +47,25 @@ with_field_policies f read write info =
 abbrev pub with_model_policies : Option Policy → Option Policy → ModelInfo → ModelInfo
 with_model_policies create delete info = record info { create = given_or create info.create; delete = given_or delete info.delete }
 
+-- the fields of the model; none where there is no such model
+abbrev pub fields_in : Schema → ℕ → List FieldInfo
+fields_in s m = option_map_or (λ (info : ModelInfo). info.fields) (model_of s m) []
+
+-- the field of the model as one that is removed
+abbrev pub as_removed : ℕ → FieldInfo → RemovedField
+as_removed m f = record { model = m; field = f.number; ty = f.ty }
+
+-- these fields of the model, and what was removed before
+abbrev pub removed_with : ℕ → List FieldInfo → List RemovedField → List RemovedField
+removed_with m fields before = map (as_removed m) fields ++ before
+
 abbrev pub schema_after : Schema → Command → Schema
 schema_after s (create_model info) =
     record s { models = s.models ++ info ∷ []; next_model = s.next_model + 1; next_field = s.next_field + length info.fields }
-schema_after s (delete_model m) = record s { models = filter (λ (info : ModelInfo). not (info.number == m)) s.models }
+schema_after s (delete_model m) = record s {
+  models = filter (λ (info : ModelInfo). not (info.number == m)) s.models;
+  removed = removed_with m (fields_in s m) s.removed;
+}
 schema_after s (add_static info) = record s { statics = s.statics ++ info ∷ []; next_static = s.next_static + 1 }
 schema_after s (remove_static n) = record s { statics = filter (λ (info : StaticInfo). not (info.number == n)) s.statics }
 schema_after s (add_principal m) = record s { models = change_model m (λ (info : ModelInfo). record info { principal = true }) s.models }
@@ -57,7 +74,10 @@ schema_after s (add_field m f init) = record s {
   next_field = s.next_field + 1;
   added = s.added ++ (record { model = m; field = f.number; init = init }) ∷ [];
 }
-schema_after s (remove_field m f) = record s { models = change_model m (without_field f) s.models }
+schema_after s (remove_field m f) = record s {
+  models = change_model m (without_field f) s.models;
+  removed = removed_with m (filter (λ (g : FieldInfo). g.number == f) (fields_in s m)) s.removed;
+}
 schema_after s (update_field m f read write) = record s { models = change_model m (with_field_policies f read write) s.models }
 schema_after s (weaken_field m f read write reason) = record s { models = change_model m (with_field_policies f read write) s.models }
 schema_after s (update_model m create delete) = record s { models = change_model m (with_model_policies create delete) s.models }

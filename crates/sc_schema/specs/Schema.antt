@@ -1,8 +1,9 @@
 -- Schemas.
-use Rattle.std.specs.Prelude.{ℕ, Bool, false, ◌==◌, List, Option, None, option_and_then}
+use Rattle.std.specs.Prelude.{ℕ, Bool, false, ◌&&◌, ◌==◌, List, Option, None, option_and_then}
 use Rattle.std.specs.List.{find}
-use Rattle.std.specs.Option.{option_map, option_map_or}
+use Rattle.std.specs.Option.{option_map, option_map_or, option_or}
 use Rattle.sc_schema.specs.declared.types.TTy.{TTy}
+use Rattle.sc_schema.specs.declared.schemas.RemovedField.{RemovedField}
 use Rattle.sc_schema.specs.declared.rights.Right.{Right}
 use Rattle.sc_schema.specs.declared.rights.Right.TheVariants.{Read, Write, Create, Delete}
 use Rattle.sc_schema.specs.declared.rights.Target.{Target}
@@ -36,7 +37,7 @@ pub record Added : Type 0 where
   pub init : Init
 
 -- The `next` numbers are free, and so is every number above. `added` has the fields that the script added so far, those removed since
--- among them.
+-- among them, and `removed` those that it removed so far, the latest first: initialisers of added fields may read them.
 pub record Schema : Type 0 where
   pub statics : List StaticInfo
   pub models : List ModelInfo
@@ -44,6 +45,7 @@ pub record Schema : Type 0 where
   pub next_model : ℕ
   pub next_field : ℕ
   pub added : List Added
+  pub removed : List RemovedField
 
 -- ---- look-up by number
 
@@ -65,6 +67,14 @@ static_of s n = find (λ info. info.number == n) s.statics
 -- the type of a field
 abbrev pub type_of : Schema → ℕ → ℕ → Option TTy
 type_of s m f = option_map (λ (info : FieldInfo). info.ty) (field_of s m f)
+
+-- the type of a field when a command removed it
+abbrev pub removed_type : Schema → ℕ → ℕ → Option TTy
+removed_type s m f = option_map (λ (r : RemovedField). r.ty) (find (λ (r : RemovedField). r.model == m && r.field == f) s.removed)
+
+-- the type of a field that the schema has, or had before a command removed it
+abbrev pub known_type : Schema → ℕ → ℕ → Option TTy
+known_type s m f = option_or (type_of s m f) (removed_type s m f)
 
 -- whether the model is there and marked as principal
 abbrev pub is_principal_model : Schema → ℕ → Bool

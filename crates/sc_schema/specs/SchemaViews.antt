@@ -44,6 +44,7 @@ schema_of s = record {
   next_model = s.next_model;
   next_field = s.next_field;
   added = map added_of s.added;
+  removed = s.removed;
 }
 
 abbrev pub command_of : TCommand → Command

@@ -60,6 +60,7 @@ start_of t = record {
   next_model = (schema_at t (count t)).next_model;
   next_field = (schema_at t (count t)).next_field;
   added = [];
+  removed = [];
 }
 
 -- ---- well typed scripts

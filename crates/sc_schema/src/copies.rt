@@ -121,6 +121,7 @@ impl Schema {
         let statics = copy_statics(alloc, self.statics.as_slice())?;
         let models = copy_models(alloc, self.models.as_slice())?;
         let added = copy_added(alloc, self.added.as_slice())?;
+        let removed = Items::from_slice(alloc, self.removed.as_slice())?;
         Ok(Schema {
             statics,
             models,
@@ -128,6 +129,7 @@ impl Schema {
             next_model: self.next_model,
             next_field: self.next_field,
             added,
+            removed,
         })
     }
 }

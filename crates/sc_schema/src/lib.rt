@@ -24,6 +24,6 @@ mod types;
 
 pub use commands::{TCommand, TScript};
 pub use rights::{Kind, Right, Target};
-pub use schemas::{FieldInfo, ModelInfo, Schema, StaticInfo};
+pub use schemas::{FieldInfo, ModelInfo, RemovedField, Schema, StaticInfo};
 pub use trees::{TExpr, TFilter, TInit, TItem, TPolicy, TSet};
 pub use types::{FieldNo, ModelNo, StaticNo, TBase, TTy};

@@ -35,6 +35,14 @@ pub struct ModelInfo {
     pub fields: Items<FieldInfo>,
 }
 
+/// A field that a command removed, by itself or with its model.
+#[derive(Clone, Copy)]
+pub struct RemovedField {
+    pub model: ModelNo,
+    pub field: FieldNo,
+    pub ty: TTy,
+}
+
 /// A schema. Its `next` numbers are free, and so are all above them.
 #[derive(Drop)]
 pub struct Schema {
@@ -46,4 +54,6 @@ pub struct Schema {
     pub next_field: u32,
     /// The fields that the script added so far, those removed since among them.
     pub added: Items<(ModelNo, FieldNo, Rc<TInit>)>,
+    /// The fields that the script removed so far, the latest first. Initialisers may read them.
+    pub removed: Items<RemovedField>,
 }

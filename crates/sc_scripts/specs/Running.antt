@@ -57,6 +57,7 @@ start_from first commands last = record {
   next_model = last.next_model;
   next_field = last.next_field;
   added = [];
+  removed = [];
 }
 
 -- the script of these commands

@@ -120,5 +120,6 @@ pub(crate) fn start_schema(
     start.next_model = last.next_model;
     start.next_field = last.next_field;
     start.added = Items::new(alloc);
+    start.removed = Items::new(alloc);
     Ok(start)
 }

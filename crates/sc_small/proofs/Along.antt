@@ -1,21 +1,21 @@
 -- What stands for the fields that a script added, over the schema of start databases and over the schema after a command.
 use Rattle.std.proofs.Common.{◌≡◌, ℕ, zero, suc, ◌+◌, ◌<◌, ◌≤◌, ◌⊎◌, Bool, true, false, ◌&&◌, List, [], ◌∷◌, ◌++◌, refl, ap, sym, ◌∙◌, subst, arith, inl, inr, Contains}
-use Rattle.std.specs.Prelude.{Option, Some, None, map, fold, ◌==◌, is_some}
+use Rattle.std.specs.Prelude.{Option, Some, None, map, fold, ◌==◌, is_some, if◌then◌else◌}
 use Rattle.std.specs.List.{AllByRecursion}
-use Rattle.std.specs.Option.{option_map_or}
+use Rattle.std.specs.Option.{option_map_or, option_or}
 use Rattle.std.proofs.lemmas.Bool.{eq-eqb}
 use Rattle.std.proofs.lemmas.List.Elements.{Contains-append_left, Contains-append_right}
 use Rattle.sc_schema.specs.declared.types.TBase.TheVariants as base
 use Rattle.sc_schema.specs.declared.types.TTy.{TTy}
 use Rattle.sc_schema.specs.declared.types.TTy.TheVariants.{Plain, Set, Opt}
 use Rattle.sc_schema.specs.Trees.{Init}
-use Rattle.sc_schema.specs.Schema.{FieldInfo, Added, Schema, type_of}
+use Rattle.sc_schema.specs.Schema.{FieldInfo, Added, Schema, type_of, removed_type, known_type}
 use Rattle.sc_schema.specs.Commands.{Command, create_model, delete_model, add_static, remove_static, add_principal, add_field, remove_field, update_field, weaken_field, update_model, weaken_model, schema_after}
 use Rattle.sc_schema.specs.Uses.{Use, init_uses_of}
 use Rattle.sc_schema.specs.Proper.{use_of, AreInOrder, IsProper}
 use Rattle.sc_schema.specs.Script.{Script, schema_at, command_at, count, IsScript}
 use Rattle.sc_formula.specs.Trees.{Term}
-use Rattle.sc_duty.specs.Cases.{Cases, held, is_truth_type}
+use Rattle.sc_duty.specs.Cases.{Cases, held, is_truth_type, holds_truth}
 use Rattle.sc_duty.specs.Formulas.{Written, nothing_written, written_out, with_added, field_cases}
 use Rattle.sc_duty.specs.Sizes.{term_size}
 use Rattle.sc_duty.proofs.Adding.{written-more, written-kept, added-split}
@@ -25,12 +25,10 @@ use Rattle.sc_duty.proofs.Shown.{AddsNothing, field-there}
 use Rattle.sc_proper.specs.Steady.{ReadsBelow}
 use Rattle.sc_proper.proofs.After.{read-weaken}
 use Rattle.sc_proper.proofs.Lists.{all-append, all-both, all-weaken}
-use Rattle.sc_small.specs.Asked.{holds_truth}
-use Rattle.sc_small.specs.Small.{KeepsTruth, KeepsTruths}
 use Rattle.sc_small.proofs.Within.{Within, fields}
 use Rattle.sc_small.proofs.WithinSets.{FieldWithin, UseWithin}
 use Rattle.sc_small.proofs.Counted.{added-within}
-use Rattle.sc_small.proofs.Staying.{type-stays}
+use Rattle.sc_small.proofs.Staying.{takes, type-stays, removed-after}
 use Rattle.sc_small.proofs.Typed.{field_use, IsThere, init-there, there-below}
 
 -- a field that the script added
@@ -213,106 +211,108 @@ truth-types s b (Opt base.Int) = refl
 truth-types s b (Opt base.Text) = refl
 truth-types s b (Opt (base.Id m)) = refl
 
--- where both schemas have the field with its type
-same-truth : (s b : Schema) (m f : ℕ) (ty : TTy) → type_of s m f ≡ Some ty → type_of b m f ≡ Some ty → holds_truth s m f ≡ holds_truth b m f
+-- where both schemas know the field with its type
+same-truth : (s b : Schema) (m f : ℕ) (ty : TTy) → known_type s m f ≡ Some ty → known_type b m f ≡ Some ty → holds_truth s m f ≡ holds_truth b m f
 same-truth s b m f ty h k =
     ap (λ o. option_map_or (is_truth_type s) o false) h ∙ truth-types s b ty ∙ sym (ap (λ o. option_map_or (is_truth_type b) o false) k)
 
-truth-there : (s : Schema) (m f : ℕ) → holds_truth s m f ≡ true → (ty : TTy) × (type_of s m f ≡ Some ty)
-truth-there s m f h =
-    elim (type_of s m f) as (λ (o : Option TTy). option_map_or (is_truth_type s) o false ≡ true → (ty : TTy) × (o ≡ Some ty)) [
-      | None ↦ λ e. cc
-      | Some ty ↦ λ e. (ty, refl)
-    ] h
+known-there : (s : Schema) (m f : ℕ) (ty : TTy) → type_of s m f ≡ Some ty → known_type s m f ≡ Some ty
+known-there s m f ty h = ap (λ o. option_or o (removed_type s m f)) h
 
--- a field of truth values that start databases have is still there
-abbrev pub StaysTruth : Script → Schema → Use → Type 0
-StaysTruth t s u = holds_truth t.start u.model u.field ≡ true → holds_truth s u.model u.field ≡ true
+-- the schema knows the type that the field has in start databases
+abbrev pub Knows : Script → Schema → Use → Type 0
+Knows t s u = (ty : TTy) × (type_of t.start u.model u.field ≡ Some ty) × (known_type s u.model u.field ≡ Some ty)
 
 -- if it was not added
 abbrev pub Stays : Script → Schema → Use → Type 0
-Stays t s u = (IsAdded s.added u → ⊥) → StaysTruth t s u
-
-module _ (t : Script) (is : IsScript t) (k : ℕ) (within : k ≤ count t) where
-  pub there-stays : (u : Use) → IsThere (schema_at t k) u → Stays t (schema_at t k) u
-  there-stays u own other e =
-      elim (type_of (schema_at t k) u.model u.field) as (λ (o : Option TTy). type_of (schema_at t k) u.model u.field ≡ o → is_some o ≡ true → holds_truth (schema_at t k) u.model u.field ≡ true) [
-        | None ↦ λ here none. cc
-        | Some ty ↦ λ here some.
-            elim (type-of-start t is k within u.model u.field ty here) [
-              | inl first ↦ sym (same-truth t.start (schema_at t k) u.model u.field ty first here) ∙ e
-              | inr added ↦ absurd (other added)
-            ]
-      ] refl own
-
--- what the command does not take keeps its truth values
-truth-after : (t : Script) (s : Schema) (c : Command) (u : Use) → StaysTruth t s u → KeepsTruth t c u → StaysTruth t (schema_after s c) u
-truth-after t s c u stays keeps e =
-    let one = truth-there s u.model u.field (stays e) in
-    let later = type-stays s u.model u.field one.0 c one.1 (keeps e) in
-    sym (same-truth s (schema_after s c) u.model u.field one.0 one.1 later) ∙ stays e
+Stays t s u = (IsAdded s.added u → ⊥) → Knows t s u
 
 still-added : (s : Schema) (c : Command) (u : Use) → IsAdded s.added u → IsAdded (schema_after s c).added u
 still-added s c u h = added-step (λ added. IsAdded added u) s c h (λ m f init same. added-more s.added (record { model = m; field = f.number; init = init }) u h)
 
--- an added field, whose initialiser reads fields that stay
+module _ (t : Script) (is : IsScript t) (k : ℕ) where
+  pub there-stays : k ≤ count t → (u : Use) → IsThere (schema_at t k) u → Stays t (schema_at t k) u
+  there-stays within u own other =
+      elim (type_of (schema_at t k) u.model u.field) as (λ (o : Option TTy). type_of (schema_at t k) u.model u.field ≡ o → is_some o ≡ true → Knows t (schema_at t k) u) [
+        | None ↦ λ here none. cc
+        | Some ty ↦ λ here some.
+            elim (type-of-start t is k within u.model u.field ty here) [
+              | inl first ↦ (ty, first, known-there (schema_at t k) u.model u.field ty here)
+              | inr added ↦ absurd (other added)
+            ]
+      ] refl own
+
+  -- a schema knows after a command what it knew before
+  stays-after : k < count t → (c : Command) → command_at t k ≡ Some c → (u : Use) → Stays t (schema_at t k) u → Stays t (schema_after (schema_at t k) c) u
+  stays-after within c here u stays other =
+      let s : Schema = schema_at t k in
+      let after : Schema = schema_after s c in
+      let m : ℕ = u.model in
+      let f : ℕ = u.field in
+      let knows : Knows t s u = stays (λ added. other (still-added s c u added)) in
+      let ty : TTy = knows.0 in (
+        ty,
+        knows.1,
+        elim (type_of after m f) as (λ (o : Option TTy). type_of after m f ≡ o → option_or o (removed_type after m f) ≡ Some ty) [
+          | None ↦ λ gone.
+              removed-after m f s c
+              ∙ elim (takes c m f) as (λ (b : Bool). takes c m f ≡ b → (if b then known_type s m f else removed_type s m f) ≡ Some ty) [
+                | true ↦ λ taken. knows.2
+                | false ↦ λ kept.
+                    elim (type_of s m f) as (λ (o : Option TTy). type_of s m f ≡ o → option_or o (removed_type s m f) ≡ Some ty → removed_type s m f ≡ Some ty) [
+                      | None ↦ λ none known. known
+                      | Some y ↦ λ there known. let never : None ≡ Some y = sym gone ∙ type-stays s m f y c there kept in cc
+                    ] refl knows.2
+              ] refl
+          | Some y ↦ λ there.
+              let next : schema_at t (suc k) ≡ after = is.steps k c here in
+              elim (type-of-start t is (suc k) (omega (arith, within)) m f y (subst (λ (v : Schema). type_of v m f ≡ Some y) (sym next) there)) [
+                | inl first ↦ sym first ∙ knows.1
+                | inr added ↦ absurd (other (subst (λ (v : Schema). IsAdded v.added u) next added))
+              ]
+        ] refl,
+      )
+
+-- an added field, of which the schema knows what its initialiser reads
 abbrev pub ReadsStay : Script → Schema → Added → Type 0
 ReadsStay t s a = AllByRecursion (Stays t s) (init_uses_of a.init)
 
-pub reads-stay : (t : Script) → IsScript t → KeepsTruths t → (k : ℕ) → k ≤ count t → AllByRecursion (ReadsStay t (schema_at t k)) (schema_at t k).added
-reads-stay t is keeps zero within = subst (AllByRecursion (ReadsStay t (schema_at t 0))) (sym is.nothing_added) tt
-reads-stay t is keeps (suc k) within =
+pub reads-stay : (t : Script) → IsScript t → (k : ℕ) → k ≤ count t → AllByRecursion (ReadsStay t (schema_at t k)) (schema_at t k).added
+reads-stay t is zero within = subst (AllByRecursion (ReadsStay t (schema_at t 0))) (sym is.nothing_added) tt
+reads-stay t is (suc k) within =
     let s : Schema = schema_at t k in
     let early : k ≤ count t = omega (arith, within) in
-    let c = command-there t is k (omega (arith, within)) in
+    let below : k < count t = omega (arith, within) in
+    let c = command-there t is k below in
     let after : Schema = schema_after s c.0 in
+    let step : (uses : List Use) → AllByRecursion (Stays t s) uses → AllByRecursion (Stays t after) uses = λ uses stay. all-weaken (Stays t s) (Stays t after) (stays-after t is k below c.0 c.1) uses stay in
     let before : AllByRecursion (ReadsStay t after) s.added
-    = all-both (ReadsStay t s) (λ (a : Added). AllByRecursion (KeepsTruth t c.0) (init_uses_of a.init)) (ReadsStay t after)
-    (λ a stay kept. all-both (Stays t s) (KeepsTruth t c.0) (Stays t after)
-    (λ u one two other. truth-after t s c.0 u (one (λ added. other (still-added s c.0 u added))) two) (init_uses_of a.init) stay kept) s.added
-    (reads-stay t is keeps k early) (keeps k c.0 c.1) in
+    = all-weaken (ReadsStay t s) (ReadsStay t after) (λ a stay. step (init_uses_of a.init) stay) s.added (reads-stay t is k early) in
     subst (λ (u : Schema). AllByRecursion (ReadsStay t u) u.added) (sym (is.steps k c.0 c.1))
     (added-step (AllByRecursion (ReadsStay t after)) s c.0 before
     (λ m f init same.
     let here : command_at t k ≡ Some (add_field m f init) = c.1 ∙ ap (λ (x : Command). Some x) same in
-    let nothing : (u : Use) → KeepsTruth t c.0 u = λ u. subst (λ (x : Command). KeepsTruth t x u) (sym same) (λ e taken. taken) in
-    all-append (ReadsStay t after) s.added ((record { model = m; field = f.number; init = init }) ∷ []) before (
-      all-weaken (IsThere s) (Stays t after)
-          (λ u own other. truth-after t s c.0 u (there-stays t is k early u own (λ added. other (still-added s c.0 u added))) (nothing u)) (init_uses_of init)
-          (init-there s m f.ty init (is.commands k (add_field m f init) here).2),
-      tt,
-    )))
+    let own : AllByRecursion (Stays t s) (init_uses_of init)
+    = all-weaken (IsThere s) (Stays t s) (there-stays t is k early) (init_uses_of init) (init-there s m f.ty init (is.commands k (add_field m f init) here).2) in
+    all-append (ReadsStay t after) s.added ((record { model = m; field = f.number; init = init }) ∷ []) before (step (init_uses_of init) own, tt)))
 
-module _ (t : Script) (is : IsScript t) (keeps : KeepsTruths t) (j : ℕ) (within : j ≤ count t) where
+module _ (t : Script) (is : IsScript t) (j : ℕ) (within : j ≤ count t) where
   -- the schema after j commands
   abbrev pub now : Schema
   now = schema_at t j
 
-  -- a field that was there, and is still if it holds truth values and was not added
+  -- a field that was there, and whose type is known unless it was added
   abbrev pub IsGood : Use → Type 0
   IsGood u = (u.field < now.next_field) × Stays t now u
 
-  agree : (m f : ℕ) → (IsAdded now.added (field_use m f) → ⊥) → StaysTruth t now (field_use m f) → holds_truth t.start m f ≡ holds_truth now m f
-  agree m f other stays =
-      elim (holds_truth t.start m f) as (λ (x : Bool). holds_truth t.start m f ≡ x → x ≡ holds_truth now m f) [
-        | true ↦ λ e. sym (stays e)
-        | false ↦ λ e.
-            elim (holds_truth now m f) as (λ (y : Bool). holds_truth now m f ≡ y → false ≡ y) [
-              | true ↦ λ h.
-                  let one = truth-there now m f h in
-                  elim (type-of-start t is j within m f one.0 one.1) [
-                    | inl first ↦ let never : true ≡ false = sym h ∙ sym (same-truth t.start now m f one.0 first one.1) ∙ e in cc
-                    | inr added ↦ absurd (other added)
-                  ]
-              | false ↦ λ h. refl
-            ] refl
-      ] refl
+  agree : (m f : ℕ) → (IsAdded now.added (field_use m f) → ⊥) → Stays t now (field_use m f) → holds_truth t.start m f ≡ holds_truth now m f
+  agree m f other stays = let knows = stays other in same-truth t.start now m f knows.0 (known-there t.start m f knows.0 knows.1) knows.2
 
   pub good-reads : AllByRecursion (λ (a : Added). AllByRecursion IsGood (init_uses_of a.init)) now.added
   good-reads =
       all-both (ReadsBelow now.next_field) (ReadsStay t now) (λ (a : Added). AllByRecursion IsGood (init_uses_of a.init))
       (λ a below stay. all-both (λ (u : Use). u.field < now.next_field) (Stays t now) IsGood (λ u less own. (less, own)) (init_uses_of a.init) below stay) now.added
-      (reads-below t is j within) (reads-stay t is keeps j within)
+      (reads-below t is j within) (reads-stay t is j within)
 
   pub good-there : (uses : List Use) → AllByRecursion (IsThere now) uses → AllByRecursion IsGood uses
   good-there uses h = all-weaken (IsThere now) IsGood (λ u own. (there-below now (is.proper j within) u own, there-stays t is j within u own)) uses h
@@ -325,7 +325,7 @@ module _ (t : Script) (is : IsScript t) (keeps : KeepsTruths t) (j : ℕ) (withi
       → Within t.start now (option_map_or (λ (at : Term → Cases). at x) o (held m f x)) (field_cases now (written_out now now.added) m f u))
       (sym (written-since t is j n m f more good.0))
       (out-within t.start now IsGood now.added nothing_written nothing_written (is.proper j within).order good-reads
-      (λ m f own other x u e. fields m f x u (agree m f other (own.1 other)) e) m f good)
+      (λ m f own other x u e. fields m f x u (agree m f other own.1) e) m f good)
 
   pub uses-within : (n : ℕ) → j + n ≤ count t → (uses : List Use) → AllByRecursion IsGood uses
       → AllByRecursion (UseWithin t.start now (written_out t.start (schema_at t (j + n)).added) (written_out now now.added)) uses

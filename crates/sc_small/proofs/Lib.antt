@@ -9,4 +9,4 @@ pub mod TypedScript
 pub mod TypedSpec
 pub mod Within
 pub mod WithinSets
-pub mod WorkedGrowth
+pub mod WorkedRemoved

@@ -29,7 +29,7 @@ use Rattle.sc_duty.specs.Sizes.{term_size, size, row, other, policy_size_over, i
 use Rattle.sc_duty.proofs.Listed.{from-list}
 use Rattle.sc_proper.proofs.Lists.{all-back}
 use Rattle.sc_small.specs.Asked.{IsOne, policy_uses_of}
-use Rattle.sc_small.specs.Small.{CommandIsBounded, IsBounded, KeepsTruths, FormulasAreSmall}
+use Rattle.sc_small.specs.Small.{CommandIsBounded, IsBounded, FormulasAreSmall}
 use Rattle.sc_small.proofs.Within.{constant-less}
 use Rattle.sc_small.proofs.WithinSets.{allowed-less, init_reach-less}
 use Rattle.sc_small.proofs.Counted.{one-who}
@@ -70,7 +70,7 @@ principal-small : (t : Script) (a : Kind) (above n : ℕ) (k : Who → ℕ → F
 principal-small t (kind.Static i) above n k each = let one = each (static i) above tt in omega (arith, one)
 principal-small t (kind.Model m) above n k each = let one = each (record_at m (bound (sort_of t.start m) above)) (above + 1) refl in omega (arith, one)
 
-module _ (t : Script) (is : IsScript t) (most : ℕ) (some : 1 ≤ most) (few : most < most_size) (small : IsBounded most t) (keeps : KeepsTruths t) where
+module _ (t : Script) (is : IsScript t) (most : ℕ) (some : 1 ≤ most) (few : most < most_size) (small : IsBounded most t) where
   -- ---- rights
 
   right-small : (k : ℕ) → k ≤ count t → (target : Target) (right : Right) (r : Term) (q : Who) → term_size r ≡ 1 → IsOne q → (sign : Bool) (above : ℕ)
@@ -90,7 +90,7 @@ module _ (t : Script) (is : IsScript t) (most : ℕ) (some : 1 ≤ most) (few : 
           let at : j ≤ count t = omega (arith, early, within) in
           let later : j + (k - j) ≤ count t = omega (arith, early, within) in
           let s : Schema = schema_at t j in
-          let uses = uses-within t is keeps j at (k - j) later (policy_uses_of p) (good-there t is keeps j at (policy_uses_of p) was.uses) in
+          let uses = uses-within t is j at (k - j) later (policy_uses_of p) (good-there t is j at (policy_uses_of p) was.uses) in
           let less = allowed-less t.start s (written_out t.start (schema_at t (j + (k - j))).added) (written_out s s.added) p uses r row (omega (arith, one)) q (of_each_kind other) (one-who q who)
           sign above true 2 in
           let size-at : size (is_allowed t.start (written_at t k) p r q sign above) ≤ policy_size_over s (written_out s s.added) p
@@ -131,11 +131,11 @@ module _ (t : Script) (is : IsScript t) (most : ℕ) (some : 1 ≤ most) (few : 
       let at : j ≤ count t = omega (arith, below) in
       let s : Schema = schema_at t j in
       let a : Added = record { model = m; field = f.number; init = init } in
-      let Good : Added → Type 0 = λ a. AllByRecursion (IsGood t is keeps j at) (init_uses_of a.init) in
-      let reads : AllByRecursion Good ((schema_at t k).added ++ a ∷ []) = subst (λ (u : Schema). AllByRecursion Good u.added) (is.steps k (add_field m f init) here) (good-reads t is keeps j at) in
-      let own : AllByRecursion (IsGood t is keeps j at) (init_uses_of init) = (all-back Good (schema_at t k).added (a ∷ []) reads).0 in
+      let Good : Added → Type 0 = λ a. AllByRecursion (IsGood t is j at) (init_uses_of a.init) in
+      let reads : AllByRecursion Good ((schema_at t k).added ++ a ∷ []) = subst (λ (u : Schema). AllByRecursion Good u.added) (is.steps k (add_field m f init) here) (good-reads t is j at) in
+      let own : AllByRecursion (IsGood t is j at) (init_uses_of init) = (all-back Good (schema_at t k).added (a ∷ []) reads).0 in
       let same : j + 0 ≡ j = omega arith in
-      let uses = uses-within t is keeps j at 0 (omega (arith, at)) (init_uses_of init) own in
+      let uses = uses-within t is j at 0 (omega (arith, at)) (init_uses_of init) own in
       let less-at = init_reach-less t.start s (written_out t.start (schema_at t (j + 0)).added) (written_out s s.added) y other (omega (arith, one)) init uses r row (omega (arith, two)) i above 2 in
       let reach-at : size (init_reach t.start (written_at t j) y init r i above) ≤ size (init_reach s (written_out s s.added) other init row i 2)
       = subst (λ (n : ℕ). size (init_reach t.start (written_at t n) y init r i above) ≤ size (init_reach s (written_out s s.added) other init row i 2)) same less-at in
@@ -182,4 +182,4 @@ module _ (t : Script) (is : IsScript t) (most : ℕ) (some : 1 ≤ most) (few : 
       ] of
 
 pub formulas_are_small : FormulasAreSmall
-formulas_are_small t most is some few small keeps duty listed = obligation-small t is most some few small keeps duty (from-list t is duty listed)
+formulas_are_small t most is some few small duty listed = obligation-small t is most some few small duty (from-list t is duty listed)

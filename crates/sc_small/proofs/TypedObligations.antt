@@ -11,7 +11,7 @@ use Rattle.sc_small.proofs.TypedSpec.{spec-small}
 use Rattle.sc_small.proofs.TypedScript.{script-small}
 
 pub typed_formulas_are_small : TypedFormulasAreSmall
-typed_formulas_are_small spec s script t typed-spec typed-script is keeps duty listed =
+typed_formulas_are_small spec s script t typed-spec typed-script is duty listed =
     let given = script-small s script t typed-script in
     let small : IsBounded most_size t = record {
       first = subst (λ (u : Schema). AllByRecursion (ModelIsBounded most_size u) u.models) (sym given.first) (spec-small spec s typed-spec);
@@ -19,4 +19,4 @@ typed_formulas_are_small spec s script t typed-spec typed-script is keeps duty l
     } in
     let some : 1 ≤ most_size = omega arith in
     let few : most_size < counted.most_size = omega arith in
-    formulas_are_small t most_size is some few small keeps duty listed
+    formulas_are_small t most_size is some few small duty listed

@@ -6,10 +6,9 @@ use Rattle.sc_tree.specs.declared.exprs.CmpOp.TheVariants.{Eq, Ne, Lt, Le, Gt, G
 use Rattle.sc_schema.specs.Schema.{Schema}
 use Rattle.sc_formula.specs.Trees.{Term, app, Formula, yes, no, equal, less, has, flag, present, negation, both, either, exists, forall}
 use Rattle.sc_duty.specs.Structures.{function_of, relation_of}
-use Rattle.sc_duty.specs.Cases.{Condition, constant, atom, and_if, exists_if, all_if, any_if, chosen, same_condition, Cases, at_term, held, truth, among, none, some, choice, continued, at_ends, of_term, at_terms, is_present, of_option, end_holds, condition_of, end_has, has_term, same_term, less_term, is_truth, some_of, are_equal, compared}
+use Rattle.sc_duty.specs.Cases.{Condition, constant, atom, and_if, exists_if, all_if, any_if, chosen, same_condition, Cases, at_term, held, truth, among, none, some, choice, continued, at_ends, of_term, at_terms, is_present, of_option, end_holds, condition_of, end_has, has_term, same_term, less_term, holds_truth, is_truth, some_of, are_equal, compared}
 use Rattle.sc_duty.specs.Formulas.{Scene, Who, static, record_at, of_each_kind, of_model}
 use Rattle.sc_duty.specs.Sizes.{term_size, size}
-use Rattle.sc_small.specs.Asked.{holds_truth}
 
 -- ---- formulas
 

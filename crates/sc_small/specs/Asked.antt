@@ -1,11 +1,9 @@
 -- What an obligation asks of a policy and of an initialiser is no larger than what their sizes count.
-use Rattle.std.specs.Prelude.{◌≡◌, ◌≤◌, ℕ, Bool, false, List, []}
-use Rattle.std.specs.Option.{option_map_or}
+use Rattle.std.specs.Prelude.{◌≡◌, ◌≤◌, ℕ, Bool, List, []}
 use Rattle.sc_schema.specs.Trees.{Policy, to_all, to_none, by_record, Init}
-use Rattle.sc_schema.specs.Schema.{Added, Schema, type_of}
+use Rattle.sc_schema.specs.Schema.{Added, Schema}
 use Rattle.sc_schema.specs.Uses.{Use, set_uses_of}
 use Rattle.sc_formula.specs.Trees.{Term}
-use Rattle.sc_duty.specs.Cases.{is_truth_type}
 use Rattle.sc_duty.specs.Formulas.{Who, static, record_at, of_each_kind, written_out, is_allowed}
 use Rattle.sc_duty.specs.Reach.{init_reach}
 use Rattle.sc_duty.specs.Sizes.{term_size, size, row, other, policy_size_over}
@@ -15,10 +13,6 @@ abbrev pub policy_uses_of : Policy → List Use
 policy_uses_of to_all = []
 policy_uses_of to_none = []
 policy_uses_of (by_record name set) = set_uses_of set
-
--- whether a field holds truth values, as far as the schema has it
-abbrev pub holds_truth : Schema → ℕ → ℕ → Bool
-holds_truth s m f = option_map_or (is_truth_type s) (type_of s m f) false
 
 -- a static principal, or one whose record is a variable
 abbrev pub IsOne : Who → Type 0

@@ -1,15 +1,13 @@
 -- The formulas of obligations are small where each policy and initialiser is within a limit.
-use Rattle.std.specs.Prelude.{◌≡◌, ◌≤◌, ◌<◌, ◌+◌, ◌*◌, ℕ, suc, true, Option, Some, IfSome, Contains}
+use Rattle.std.specs.Prelude.{◌≡◌, ◌≤◌, ◌<◌, ◌+◌, ◌*◌, ℕ, suc, Option, Some, IfSome, Contains}
 use Rattle.std.specs.List.{AllByRecursion}
 use Rattle.sc_schema.specs.Trees.{Policy}
-use Rattle.sc_schema.specs.Schema.{FieldInfo, ModelInfo, Added, Schema}
+use Rattle.sc_schema.specs.Schema.{FieldInfo, ModelInfo, Schema}
 use Rattle.sc_schema.specs.Commands.{Command, create_model, delete_model, add_static, remove_static, add_principal, add_field, remove_field, update_field, weaken_field, update_model, weaken_model}
-use Rattle.sc_schema.specs.Uses.{Use, init_uses_of}
 use Rattle.sc_schema.specs.Script.{Script, schema_at, command_at, IsScript}
 use Rattle.sc_duty.specs.declared.duty.Duty.{Duty}
 use Rattle.sc_duty.specs.Duties.{obligations_of, formula_of}
 use Rattle.sc_duty.specs.Sizes.{size, policy_size, init_size, most_size}
-use Rattle.sc_small.specs.Asked.{holds_truth}
 
 -- ---- what is within a limit over a schema
 
@@ -47,32 +45,8 @@ pub record IsBounded (most : ℕ) (t : Script) : Type 0 where
   pub first : AllByRecursion (ModelIsBounded most (schema_at t 0)) (schema_at t 0).models
   pub commands : (k : ℕ) (c : Command) → command_at t k ≡ Some c → CommandIsBounded most (schema_at t (suc k)) c
 
--- the field goes with the command
-abbrev pub Takes : Command → Use → Type 0
-Takes (create_model info) u = ⊥
-Takes (delete_model m) u = u.model ≡ m
-Takes (add_static info) u = ⊥
-Takes (remove_static n) u = ⊥
-Takes (add_principal m) u = ⊥
-Takes (add_field m f init) u = ⊥
-Takes (remove_field m f) u = (u.model ≡ m) × (u.field ≡ f)
-Takes (update_field m f read write) u = ⊥
-Takes (weaken_field m f read write reason) u = ⊥
-Takes (update_model m create delete) u = ⊥
-Takes (weaken_model m create delete reason) u = ⊥
-
--- if start databases have truth values in it
-abbrev pub KeepsTruth : Script → Command → Use → Type 0
-KeepsTruth t c u = holds_truth t.start u.model u.field ≡ true → Takes c u → ⊥
-
--- No command removes a field of truth values that the initialiser of an added field reads. Where one is gone, what is counted compares two such
--- values as terms, and takes some of such a value end by end; the formula of an obligation does neither, and is larger.
-abbrev pub KeepsTruths : Script → Type 0
-KeepsTruths t =
-    (k : ℕ) (c : Command) → command_at t k ≡ Some c → AllByRecursion (λ (a : Added). AllByRecursion (KeepsTruth t c) (init_uses_of a.init)) (schema_at t k).added
-
 -- An obligation has two quantifiers and a conjunction with two policies, or three and two conjunctions with two policies and what a use reads.
 abbrev pub FormulasAreSmall : Type 0
 FormulasAreSmall =
-    (t : Script) (most : ℕ) → IsScript t → 1 ≤ most → most < most_size → IsBounded most t → KeepsTruths t → (duty : Duty) → Contains (obligations_of t) duty
+    (t : Script) (most : ℕ) → IsScript t → 1 ≤ most → most < most_size → IsBounded most t → (duty : Duty) → Contains (obligations_of t) duty
     → size (formula_of t duty) ≤ 5 + 3 * most

@@ -11,7 +11,6 @@ use Rattle.sc_scripts.specs.Counted.{counted}
 use Rattle.sc_duty.specs.declared.duty.Duty.{Duty}
 use Rattle.sc_duty.specs.Duties.{obligations_of, formula_of}
 use Rattle.sc_duty.specs.Sizes.{size}
-use Rattle.sc_small.specs.Small.{KeepsTruths}
 
 -- 60,005 nodes
 abbrev pub most_nodes : ℕ
@@ -19,5 +18,5 @@ most_nodes = 5 + 3 * most_size
 
 abbrev pub TypedFormulasAreSmall : Type 0
 TypedFormulasAreSmall =
-    (spec : Spec) (s : Schema) (script : written.Script) (t : Script) → typed_spec counted spec ≡ Ok s → typed_script counted s script ≡ Ok t → IsScript t → KeepsTruths t
+    (spec : Spec) (s : Schema) (script : written.Script) (t : Script) → typed_spec counted spec ≡ Ok s → typed_script counted s script ≡ Ok t → IsScript t
     → (duty : Duty) → Contains (obligations_of t) duty → size (formula_of t duty) ≤ most_nodes

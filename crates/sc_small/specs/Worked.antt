@@ -1,4 +1,4 @@
--- Scripts that take away fields of truth values whose values stay in fields that they add, and so owe formulas far larger than was counted.
+-- Scripts that take away fields of truth values whose values stay in fields that they add.
 use Rattle.std.specs.Prelude.{◌≡◌, ℕ, zero, suc, true, List, [], ◌∷◌, ◌++◌, None, Some, codes}
 use Rattle.sc_tree.specs.declared.exprs.CmpOp.TheVariants.{Eq}
 use Rattle.sc_tree.specs.declared.exprs.FilterOp.TheVariants.{Cmp}
@@ -35,6 +35,7 @@ start = record {
   next_model = 1;
   next_field = 2;
   added = [];
+  removed = [];
 }
 
 abbrev pub x : Expr
@@ -74,8 +75,8 @@ last_schema s (c ∷ commands) = last_schema (schema_after s c) commands
 abbrev pub commands : List Command
 commands = before ++ update_field 0 2 (Some last_policy) None ∷ []
 
-abbrev pub grown : Script
-grown = record { start = start; commands = commands; schemas = after_all start commands }
+abbrev pub comparing : Script
+comparing = record { start = start; commands = commands; schemas = after_all start commands }
 
 abbrev pub gain : Duty
 gain = record { command = 8; target = on.Field 0 2; right = Read; spot = None; kind = kind.Model 0 }
@@ -95,13 +96,11 @@ taken_apart f = match_expr (just (get x 0 f)) (get x 0 2) (codes "y") (if_expr (
 abbrev pub options : List Command
 options = added 2 (codes "b") (get x 0 0) ∷ remove_field 0 0 ∷ added 3 (codes "e") (taken_apart 2) ∷ added 4 (codes "f") (taken_apart 3) ∷ added 5 (codes "g") (taken_apart 4) ∷ []
 
--- The last initialiser is counted as 255 and the policy as 131, and the formula of the last obligation has 1,149 nodes, more than three times the
--- larger and five. Each further field of this kind makes what is counted twice as large and the formula four times: with five more an initialiser
--- is counted as 9,183, and the formula has 1,179,645 nodes. Where options of such values are taken apart, what is counted as 1,023 has 27,855 nodes
--- over the schema of start databases, and the more often y stands there, the more.
-pub record WorkedGrowth : Type 0 where
-  pub last_field : init_size (last_schema start before) (Plain base.Bool) (plain (chosen_by 5)) ≡ 255
-  pub last_right : policy_size (last_schema start commands) last_policy ≡ 131
-  pub formula : size (formula_of grown gain) ≡ 1149
-  pub last_option : init_size (last_schema start options) (Plain base.Bool) (plain (taken_apart 4)) ≡ 1023
+-- What initialisers read from fields of truth values that are gone is counted as what it was. If it were counted as terms are, the last initialiser
+-- of the first script would count 255, its policy 131 and the last initialiser of the second 1,023.
+pub record WorkedRemoved : Type 0 where
+  pub last_field : init_size (last_schema start before) (Plain base.Bool) (plain (chosen_by 5)) ≡ 1143
+  pub last_right : policy_size (last_schema start commands) last_policy ≡ 1145
+  pub formula : size (formula_of comparing gain) ≡ 1149
+  pub last_option : init_size (last_schema start options) (Plain base.Bool) (plain (taken_apart 4)) ≡ 27855
   pub over_start : init_size_over start (written_out start (last_schema start options).added) (Plain base.Bool) (plain (taken_apart 4)) ≡ 27855

@@ -3,7 +3,7 @@
 ghost use Rattle.sc_small.specs.Asked.{AllowedIsCounted, ReachIsCounted};
 ghost use Rattle.sc_small.specs.Small.{FormulasAreSmall};
 ghost use Rattle.sc_small.specs.Typed.{TypedFormulasAreSmall};
-ghost use Rattle.sc_small.specs.Worked.{WorkedGrowth};
+ghost use Rattle.sc_small.specs.Worked.{WorkedRemoved};
 
 /// A policy, asked about any principal on any record and below any quantifiers, is no larger than
 /// its size over the same schema, and neither is its negation.
@@ -19,21 +19,21 @@ pub fn reach_is_counted()
 {}
 
 /// The formula of an obligation is at most three times as large as a policy or an initialiser of
-/// the script may be, and five more, if each field of truth values is kept that the initialiser of
-/// an added field reads.
+/// the script may be, and five more.
 pub fn formulas_are_small()
     ensures { FormulasAreSmall }
 {}
 
 /// So no obligation of a script that is typed over a typed specification, policies and initialisers
-/// being counted, has a formula of more than 60,005 nodes, if it keeps these fields.
+/// being counted, has a formula of more than 60,005 nodes.
 pub fn typed_formulas_are_small()
     ensures { TypedFormulasAreSmall }
 {}
 
-/// Scripts that remove fields of truth values whose values stay in added fields owe formulas that
-/// are larger: an initialiser is counted as 255, and the formula has 1,149 nodes.
-#[tactic(auto, using(crate::proofs::WorkedGrowth::worked_growth))]
-pub fn worked_growth()
-    ensures { WorkedGrowth }
+/// Two worked scripts whose added fields keep truth values of fields that they remove: an
+/// initialiser is counted as 1,143, a policy as 1,145, and the obligation has 1,149 nodes; another
+/// initialiser is counted as 27,855, as over the schema of start databases.
+#[tactic(auto, using(crate::proofs::WorkedRemoved::worked_removed))]
+pub fn worked_removed()
+    ensures { WorkedRemoved }
 {}

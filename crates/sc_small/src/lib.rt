@@ -9,5 +9,5 @@ mod laws;
 
 pub use laws::{
     allowed_is_counted, formulas_are_small, reach_is_counted, typed_formulas_are_small,
-    worked_growth,
+    worked_removed,
 };

@@ -11,7 +11,7 @@ use Rattle.sc_specs.specs.NewNames.{new_static}
 use Rattle.sc_specs.specs.Sizes.{Sizes, models_are_small}
 
 abbrev pub empty_schema : Schema
-empty_schema = record { statics = []; models = []; next_static = 0; next_model = 0; next_field = 0; added = [] }
+empty_schema = record { statics = []; models = []; next_static = 0; next_model = 0; next_field = 0; added = []; removed = [] }
 
 -- the static of this name, with the next number of the schema
 abbrev pub next_static : Schema → Named → StaticInfo

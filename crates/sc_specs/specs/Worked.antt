@@ -96,6 +96,7 @@ pub record WorkedSpecs : Type 0 where
         next_model = 2;
         next_field = 2;
         added = [];
+        removed = [];
       })
   -- a model with a static's name
   pub model_of_a_static : schema_of_text (spec_of_parts (at_place (codes "A") 7 ∷ []) (model_def false (at_place (codes "A") 20) [] ∷ [])) ≡ Err (Twice 20)

@@ -50,6 +50,7 @@ fn empty_schema(alloc: Global) -> Schema
         next_model: 0,
         next_field: 0,
         added: Items::new(alloc),
+        removed: Items::new(alloc),
     }
 }
 

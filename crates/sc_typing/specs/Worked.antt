@@ -51,6 +51,7 @@ app = record {
   next_model = 2;
   next_field = 4;
   added = [];
+  removed = [];
 }
 
 abbrev pub named : List ℕ → ℕ → Named

@@ -35,6 +35,7 @@ fn schema_of_users(alloc: Global) -> Result<Schema, Fail> {
         next_model: 1,
         next_field: 2,
         added: Items::new(alloc),
+        removed: Items::new(alloc),
     })
 }
 

@@ -33,6 +33,7 @@ fn schema(alloc: Global, models: Items<ModelInfo>) -> Schema
         next_model: 9,
         next_field: 9,
         added: Items::new(alloc),
+        removed: Items::new(alloc),
     }
 }
 

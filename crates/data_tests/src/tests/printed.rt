@@ -39,6 +39,7 @@ fn schema_of_users(alloc: Global) -> Result<Schema, Fail> {
         next_model: 1,
         next_field: 3,
         added: Items::new(alloc),
+        removed: Items::new(alloc),
     })
 }
 

@@ -43,6 +43,7 @@ fn start(alloc: Global) -> Result<Schema, Fail> {
         next_model: 1,
         next_field: 0,
         added: Items::new(alloc),
+        removed: Items::new(alloc),
     })
 }
 

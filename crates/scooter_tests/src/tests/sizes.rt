@@ -267,6 +267,32 @@ fn initialisers_up_to_the_limit(rt: HostRuntime) -> Result<(), Fail> {
     Ok(())
 }
 
+/// Three fields, each over the one before, take apart what is kept of a truth value that a command
+/// removed.
+#[test]
+fn removed_truth_values_are_counted(rt: HostRuntime) -> Result<(), Fail> {
+    let spec = b"principal model X {
+  create: none,
+  delete: none,
+  a: Bool {read: none, write: none},
+}
+";
+    let script = b"X::AddField(b: Bool {read: none, write: none}, x -> x.a)
+X::RemoveField(a)
+X::AddField(e: Bool {read: none, write: none}, x -> match some(x.b) with none -> x.b
+  | some y -> if y && y && y && y && y && y && y && y then x.b else x.b)
+X::AddField(f: Bool {read: none, write: none}, x -> match some(x.e) with none -> x.b
+  | some y -> if y && y && y && y && y && y && y && y then x.b else x.b)
+X::AddField(g: Bool {read: none, write: none}, x -> match some(x.f) with none -> x.b
+  | some y -> if y && y && y && y && y && y && y && y then x.b else x.b)
+";
+    let ended = check_texts(rt.alloc(), spec, script)?;
+    assert_eq!(rt; ended.status, Status::TypesRefused);
+    let report = b"s.scm: command 5: expanded 27855 at 443\n";
+    assert!(rt; ended.output.as_slice() == report.as_slice());
+    Ok(())
+}
+
 /// Added fields, the first of which is these fields of the record, and each other one has the one
 /// before twice, one in the other.
 fn nested(alloc: Global, first: &[u8], fields: u16) -> Result<Vec<u8>, AllocError> {

@@ -61,6 +61,7 @@ fn app(alloc: Global) -> Result<Schema, Fail> {
         next_model: 2,
         next_field: 3,
         added: Items::new(alloc),
+        removed: Items::new(alloc),
     })
 }
 

@@ -1,9 +1,9 @@
-use Rattle.std.proofs.Common.{◌≡◌, ◌∙◌, Bool, true, false, ap, sym}
+use Rattle.std.proofs.Common.{◌≡◌, ◌∙◌, false, ap, sym}
 use Rattle.std.specs.Prelude.{◌&&◌, ◌==◌, Some}
 use Rattle.sc_schema.specs.Views.{init_of}
 use Rattle.sc_duty.specs.Formulas.{init_cases}
 use Rattle.sc_builder.specs.Values.{schema_in, written_upto}
-use Rattle.sc_builder.proofs.Written.{written_here, written_before, written_past, not_both, not_first}
+use Rattle.sc_builder.proofs.Written.{written_here, written_before, not_both, not_first}
 use Rattle.sc_builder.proofs.added.+init_at.Goals as goal
 use Rattle.sc_builder.proofs.added.+init_at.Goals.{else-added-m-via-then-added-m+else-added-f, else-added-m-via-else-added-m}
 

@@ -1,4 +1,4 @@
-use Rattle.std.proofs.Common.{◌≡◌, Bool, true, ap, sym, ◌∙◌}
+use Rattle.std.proofs.Common.{Bool, true, ap, sym, ◌∙◌}
 use Rattle.std.specs.Prelude.{if◌then◌else◌}
 use Rattle.sc_schema.specs.Views.{expr_of}
 use Rattle.sc_duty.specs.Cases.{condition_of}

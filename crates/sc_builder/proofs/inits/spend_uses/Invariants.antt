@@ -1,4 +1,4 @@
-use Rattle.std.proofs.Common.{◌≡◌, ◌+◌, ◌-◌, ◌≤◌}
+use Rattle.std.proofs.Common.{◌≡◌, ◌+◌, ◌-◌}
 use Rattle.sc_schema.specs.Views.{init_of}
 use Rattle.sc_builder.specs.Values.{schema_in, written_upto}
 use Rattle.sc_builder.specs.Spending.{use_sizes}

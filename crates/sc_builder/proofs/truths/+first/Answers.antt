@@ -1,14 +1,11 @@
-use Rattle.std.proofs.Common.{◌≡◌, ◌∙◌, ap, sym, refl, subst, inl, inr}
-use Rattle.std.specs.Prelude.{IfOk}
+use Rattle.std.proofs.Common.{◌≡◌, ◌∙◌, ap, sym, refl, inl, inr}
 use Rattle.sc_schema.specs.Views.{expr_of}
 use Rattle.sc_duty.specs.Cases.{continued, is_truth, condition_of, truth}
 use Rattle.sc_duty.specs.Formulas.{cases_of}
 use Rattle.sc_builder.specs.Values.{schema_in, written_in, written_upto, scene_data, end_data, steps_data}
-use Rattle.sc_builder.proofs.Walks.{ok_same, walk_get, walk_match, walk_some, first_just, whole_form, ap2}
+use Rattle.sc_builder.proofs.Walks.{ok_same, walk_get, walk_match, walk_some, first_just, whole_form}
 use Rattle.sc_builder.proofs.Forms.{Flag_is, Eq_is, Iff_is, Less_is, Member_is, Not_is, And_is, Or_is}
-use Rattle.sc_builder.specs.declared.values.End.{End}
 use Rattle.sc_builder.specs.declared.values.Steps.{Steps}
-use Rattle.sc_builder.specs.declared.values.Steps.TheVariants as TheViews
 use Rattle.sc_builder.proofs.truths.+first.Goals as goal
 
 pub first-returns-in-SomeLit : goal.first-returns-in-SomeLit
