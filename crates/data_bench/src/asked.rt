@@ -1,10 +1,10 @@
 //! How often policies allow, and who is in sets.
 
-use sc_data::Principal;
-use sc_members::{allows, members};
-use sc_records::{Database, Record, Value};
-use sc_schema::{FieldInfo, ModelInfo, Schema, TPolicy, TSet};
+use data_meaning::Principal;
+use data_members::{allows, members};
+use data_records::{Database, Record, Value};
 use std::alloc::{AllocError, Global};
+use type_schema::{FieldInfo, ModelInfo, Schema, TPolicy, TSet};
 
 /// Which policies are asked.
 #[derive(Clone, Copy, PartialEq, Eq)]

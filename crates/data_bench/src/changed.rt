@@ -1,8 +1,8 @@
 //! Fields that are changed.
 
-use sc_records::{DataErr, Database};
-use sc_schema::{FieldInfo, ModelInfo, ModelNo, Schema};
+use data_records::{DataErr, Database};
 use std::alloc::{AllocError, Global};
+use type_schema::{FieldInfo, ModelInfo, ModelNo, Schema};
 
 /// The ids of the records of a model.
 fn ids_of(alloc: Global, database: &Database, m: ModelNo) -> Result<Vec<u64>, AllocError> {

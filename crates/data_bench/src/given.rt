@@ -1,16 +1,16 @@
 //! The specification and the database of the files.
 
 ghost use Rattle.std.specs.Prelude.{◌<◌, ◌^◌, IfOk, IfSome, length};
-ghost use Rattle.sc_schema.specs.Proper.{IsProper};
-ghost use Rattle.sc_schema.specs.SchemaViews as view;
+ghost use Rattle.type_schema.specs.Proper.{IsProper};
+ghost use Rattle.type_schema.specs.SchemaViews as view;
 
-use sc_data_read::{ReadErr, read_database};
-use sc_records::Database;
-use sc_schema::Schema;
-use sc_scripts::type_spec;
-use sc_texts::parse_spec;
+use data_read::{ReadErr, read_database};
+use data_records::Database;
 use std::time::Instant;
 use std::{fs, io};
+use text_parse::parse_spec;
+use type_schema::Schema;
+use type_scripts::type_spec;
 
 /// The bytes of a file that is short enough to be read.
 fn bytes_of(rt: &HostRuntime, path: &str) -> io::Result<Vec<u8>>

@@ -15,12 +15,12 @@ mod given;
 use crate::asked::{Asked, Which, first_principals, largest_set, size_of};
 use crate::changed::change_fields;
 use crate::given::{database_of, schema_of};
-use sc_data_text::print_database;
-use sc_records::Database;
-use sc_schema::Schema;
+use data_print::print_database;
+use data_records::Database;
 use std::process::ExitCode;
 use std::time::Instant;
 use std::{env, io};
+use type_schema::Schema;
 
 /// For how many principals each record is read.
 const PRINCIPALS: usize = 100;

@@ -1,19 +1,21 @@
 //! Texts whose database, or whose first fault, is known.
 
 ghost use Rattle.std.specs.Prelude.{IfOk};
-ghost use Rattle.sc_schema.specs.Proper.{IsProper};
-ghost use Rattle.sc_schema.specs.SchemaViews.{schema_of};
+ghost use Rattle.type_schema.specs.Proper.{IsProper};
+ghost use Rattle.type_schema.specs.SchemaViews.{schema_of};
 
-use sc_data_read::{ReadErr, read_database, reload_database};
-use sc_data_text::print_database;
-use sc_records::{Database, Limit};
-use sc_schema::Schema;
-use sc_scripts::type_spec;
-use sc_texts::{SyntaxErr, parse_spec};
+use data_print::print_database;
+use data_read::{ReadErr, read_database, reload_database};
+use data_records::{Database, Limit};
 use std::alloc::Global;
 use std::test::Fail;
+use text_parse::{SyntaxErr, parse_spec};
+use type_schema::Schema;
+use type_scripts::type_spec;
 
+mod places;
 mod rows;
+mod weights;
 
 /// How long a text of these tests may be.
 const MOST_BYTES: usize = 1_048_576;
@@ -94,16 +96,6 @@ fn is_reloaded(alloc: Global, s: &Schema, text: &[u8], printed: &[u8]) -> Result
     }
 }
 
-/// Whether it is refused so.
-fn is_kept_out(alloc: Global, s: &Schema, text: &[u8], err: ReadErr) -> Result<bool, Fail>
-    requires { IsProper (schema_of s.now) }
-{
-    match reload(alloc, s, text)? {
-        Ok(_) => Ok(false),
-        Err(found) => Ok(found == err),
-    }
-}
-
 /// Whether the text is read, and the database of it is printed so.
 fn is_printed(alloc: Global, s: &Schema, text: &[u8], printed: &[u8]) -> Result<bool, Fail>
     requires { IsProper (schema_of s.now) }
@@ -122,20 +114,6 @@ fn is_refused(alloc: Global, s: &Schema, text: &[u8], err: ReadErr) -> Result<bo
         Ok(_) => Ok(false),
         Err(found) => Ok(found == err),
     }
-}
-
-/// How many of the texts are refused so, kept or not, up to the first that is not.
-fn refused(alloc: Global, s: &Schema, cases: &[(&[u8], ReadErr)]) -> Result<usize, Fail>
-    requires { IsProper (schema_of s.now) }
-{
-    let mut count: usize = 0;
-    for (text, err) in cases {
-        if !is_refused(alloc, s, text, *err)? || !is_kept_out(alloc, s, text, *err)? {
-            return Ok(count);
-        }
-        count = count.saturating_add(1);
-    }
-    Ok(count)
 }
 
 /// How many of the texts are read, kept or not, and their databases are printed so.
@@ -174,38 +152,10 @@ const BAD_NEXT: &[u8] = b"User @2 {
 ";
 
 #[test]
-fn what_is_wrong_first(rt: HostRuntime) -> Result<(), Fail> {
-    let alloc = rt.alloc();
-    let s = company(alloc)?;
-    let cases: [(&[u8], ReadErr); 11] = [
-        (BAD_NEXT, ReadErr::BadId { at: 84 }),
-        (b"User @0 {}", ReadErr::BadId { at: 6 }),
-        (b"Ghost @1 {}", ReadErr::Unknown { at: 0 }),
-        (b"Team @2 {@1 {lead: none}}", ReadErr::Absent { at: 23 }),
-        (b"Team @1 {} Team @1 {}", ReadErr::Twice { at: 11 }),
-        (
-            b"Team @2 {@1 {members: [@1, @1, 2]}}",
-            ReadErr::Twice { at: 28 },
-        ),
-        (
-            b"Team @2 {@1 {members: [@1, 2]}}",
-            ReadErr::WrongShape { at: 27 },
-        ),
-        (
-            b"Team @2 {@1 {members: [@0], lead: some(@7)}}",
-            ReadErr::Dangling { at: 24 },
-        ),
-        (
-            b"Team @2 {@1 {lead: self}}",
-            ReadErr::Syntax(SyntaxErr::NotGrammar { token: 9 }),
-        ),
-        (
-            b"User @1 {",
-            ReadErr::Syntax(SyntaxErr::NotGrammar { token: 4 }),
-        ),
-        (b"Ghost @1 =", ReadErr::Syntax(SyntaxErr::BadByte { at: 9 })),
-    ];
-    assert_eq!(rt; refused(alloc, &s, &cases)?, 11);
+fn a_printed_text_with_another_next(rt: HostRuntime) -> Result<(), Fail> {
+    let s = company(rt.alloc())?;
+    let bad_id = ReadErr::BadId { at: 84 };
+    assert!(rt; is_refused(rt.alloc(), &s, BAD_NEXT, bad_id)?);
     Ok(())
 }
 

@@ -1,13 +1,14 @@
 //! What no clause says, that the calls succeed where there is memory, and worked rows.
 
-use sc_ast::{Name, Txt};
-use sc_records::Value;
-use sc_schema::{FieldInfo, TPolicy, TTy};
+use data_records::Value;
 use std::alloc::Global;
 use std::rc::Rc;
 use std::test::Fail;
+use text_ast::{Name, Txt};
+use type_schema::{FieldInfo, TPolicy, TTy};
 
 mod built;
+mod limits;
 mod numbers;
 mod printed;
 mod records;

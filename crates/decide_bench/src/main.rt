@@ -23,7 +23,7 @@ mod smtlib;
 use crate::problem::Problem;
 use crate::problems::{Shape, make_problem, problems};
 use crate::smtlib::text_of;
-use sc_decide::Verdict;
+use decide_verdict::Verdict;
 use std::alloc::AllocError;
 use std::rt::Env;
 use std::time::Instant;

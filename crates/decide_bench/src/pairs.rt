@@ -2,7 +2,7 @@
 
 use crate::problem::{Problem, exist};
 use decide_trial::{Forms, signature_of};
-use sc_formula::{FunSig, Range, Signature};
+use form_formula::{FunSig, Range, Signature};
 use sqlite_items::Items;
 use std::alloc::{AllocError, Global};
 

@@ -1,7 +1,7 @@
 //! Formulas and their signatures.
 
 use decide_trial::Forms;
-use sc_formula::Signature;
+use form_formula::Signature;
 use std::alloc::AllocError;
 
 /// A formula and its signature.

@@ -8,7 +8,7 @@
 ghost use Rattle.std.specs.Prelude.{◌<◌, length};
 
 use crate::problem::Problem;
-use sc_formula::{Arena, FunSig, Node, Range, Signature};
+use form_formula::{Arena, FunSig, Node, Range, Signature};
 use std::alloc::{AllocError, Global};
 
 /// What an atom says of two terms.

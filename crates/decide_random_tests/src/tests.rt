@@ -15,8 +15,8 @@ use self::signature::signature;
 use self::structures::all_structures;
 use self::writer::Writer;
 use decide_trial::Forms;
-use sc_decide::Verdict;
-use sc_formula::Structure;
+use decide_verdict::Verdict;
+use form_formula::Structure;
 use std::alloc::{AllocError, Global};
 use std::test::Fail;
 

@@ -2,6 +2,7 @@
 
 mod congruence;
 mod cycles;
+mod limits;
 mod rows;
 mod signatures;
 mod sizes;

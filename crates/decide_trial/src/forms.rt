@@ -3,12 +3,12 @@
 ghost use Rattle.std.specs.Prelude.{◌<◌, length, OnOk};
 
 use crate::over::{Scope, is_formula, is_over, is_term};
-use sc_decide::{Verdict, decide};
-use sc_formula::{Arena, Signature, Structure, holds};
+use decide_verdict::{Verdict, decide};
+use form_formula::{Arena, Signature, Structure, holds};
 use std::alloc::{AllocError, Global};
 
 /// How many nodes formulas have at most.
-const MOST_NODES: usize = 1_000_000;
+const MOST_TRIAL_NODES: usize = 1_000_000;
 
 /// How many parts of a formula stand below each other at most.
 const MOST_LEVELS: u32 = 10_000;
@@ -21,9 +21,9 @@ pub struct Forms {
 
 /// Checks that there is room.
 fn check_room(arena: &Arena) -> Result<(), AllocError>
-    ensures { OnOk result (length arena.now < MOST_NODES) }
+    ensures { OnOk result (length arena.now < MOST_TRIAL_NODES) }
 {
-    if arena.len() < MOST_NODES {
+    if arena.len() < MOST_TRIAL_NODES {
         Ok(())
     } else {
         Err(AllocError)

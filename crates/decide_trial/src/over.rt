@@ -1,12 +1,12 @@
 //! Whether a formula is over a signature.
 
 ghost use Rattle.std.specs.Prelude.{◌≡◌, ◌<◌, ◌++◌, ◌∷◌, [], true, IfOk, IfSome};
-ghost use Rattle.sc_formula.specs.Nodes.{IsFormula, IsTerm, formula_of, term_of};
-ghost use Rattle.sc_formula.specs.Over.{AreComparable, HasRange, IsFunction, IsOver};
-ghost use Rattle.sc_formula.specs.Trees.{equal, flag, has, less, present};
-ghost use Rattle.sc_formula.specs.declared.structure.FunSig.{FunSig as AnyFunction};
+ghost use Rattle.form_formula.specs.Nodes.{IsFormula, IsTerm, formula_of, term_of};
+ghost use Rattle.form_formula.specs.Over.{AreComparable, HasRange, IsFunction, IsOver};
+ghost use Rattle.form_formula.specs.Trees.{equal, flag, has, less, present};
+ghost use Rattle.form_formula.specs.declared.structure.FunSig.{FunSig as AnyFunction};
 
-use sc_formula::{Arena, Node, Range, Signature};
+use form_formula::{Arena, Node, Range, Signature};
 use std::alloc::{AllocError, Global};
 
 /// A signature, an arena, and the sorts of the quantifiers above, the outermost first.

@@ -2,9 +2,9 @@
 
 ghost use Rattle.std.specs.Prelude.{◌≡◌, ◌&&◌, nat_lt};
 ghost use Rattle.std.specs.List.{list_all};
-ghost use Rattle.sc_formula.specs.Signature.{has_range, is_signature};
+ghost use Rattle.form_formula.specs.Signature.{has_range, is_signature};
 
-use sc_formula::{FunSig, Range, SetSig, Signature};
+use form_formula::{FunSig, Range, SetSig, Signature};
 use sqlite_items::Items;
 use std::alloc::AllocError;
 

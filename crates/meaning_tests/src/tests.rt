@@ -2,19 +2,19 @@
 
 ghost use Rattle.std.specs.Prelude.{◌≡◌, ◌≤◌, [], IfOk, IsTrue, length};
 ghost use Rattle.std.specs.List.{AllByRecursion};
-ghost use Rattle.sc_ast.specs.Limits.{most_commands};
-ghost use Rattle.sc_commands.specs.CommandLaw.{IsWritten};
-ghost use Rattle.sc_proper.specs.Steady.{IsSteady};
-ghost use Rattle.sc_schema.specs.Script.{IsScript};
-ghost use Rattle.sc_schema.specs.SchemaViews as view;
-ghost use Rattle.sc_schema.specs.SchemaViews.{schema_of};
+ghost use Rattle.text_ast.specs.Limits.{most_commands};
+ghost use Rattle.type_commands.specs.CommandLaw.{IsWritten};
+ghost use Rattle.type_proper.specs.Steady.{IsSteady};
+ghost use Rattle.type_schema.specs.Script.{IsScript};
+ghost use Rattle.type_schema.specs.SchemaViews as view;
+ghost use Rattle.type_schema.specs.SchemaViews.{schema_of};
 
-use sc_schema::{Schema, TScript};
-use sc_scripts::{type_script, type_spec};
-use sc_texts::{parse_script, parse_spec};
-use sc_tree::{Command, Script, Spec};
 use std::alloc::Global;
 use std::test::Fail;
+use text_parse::{parse_script, parse_spec};
+use text_tree::{Command, Script, Spec};
+use type_schema::{Schema, TScript};
+use type_scripts::{type_script, type_spec};
 
 mod databases;
 mod formulas;

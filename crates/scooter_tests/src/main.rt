@@ -5,11 +5,11 @@
 #[cfg(test)]
 mod tests;
 
-use sc_flow::{CurrentFolder, DirShelf, StdSink};
-use sc_trial::{run_over_objects, words_of};
+use app_flow::{CurrentFolder, DirShelf, StdSink};
+use app_trial::{run_over_objects, words_of};
 use std::io;
 
-/// The words of the commands, in the order in which README.md shows them.
+/// The words of each command that README.md shows.
 const COMMANDS: [&[&str]; 13] = [
     &["check", "notes.spec", "robots.scm"],
     &["check", "groups.spec", "minutes.scm"],

@@ -2,6 +2,8 @@
 
 mod faults;
 mod grown;
+mod large;
+mod reads;
 mod rows;
 mod sizes;
 mod surely;

@@ -1,15 +1,16 @@
 //! Values and rows that literals name.
 
-use crate::tests::company;
-use sc_ast::Name;
-use sc_data_judge::{LitErr, row_from, value_from};
-use sc_data_tree::{FieldLit, Lit, WrittenId};
-use sc_records::Value;
-use sc_schema::Schema;
-use sc_tree::Named;
+use crate::tests::{MOST_BYTES, company};
+use data_judge::{LitErr, row_from, value_from};
+use data_parse::parse_data;
+use data_records::Value;
+use data_tree::{FieldLit, Lit, TableLit, WrittenId};
 use sqlite_items::Items;
 use std::alloc::Global;
 use std::test::Fail;
+use text_ast::Name;
+use text_tree::Named;
+use type_schema::Schema;
 
 fn given(alloc: Global, word: &[u8], value: Lit) -> Result<FieldLit, Fail> {
     let name = Name::make(alloc, word)?.ok_or("no name")?;
@@ -92,5 +93,219 @@ fn the_record_that_is_made(rt: HostRuntime) -> Result<(), Fail> {
             Err(LitErr::WrongShape { field: 4 })
         )
     );
+    Ok(())
+}
+
+/// Fields of a record of users, 0, or of teams, 1, by what refuses them: the name that is unknown,
+/// counted from 0, or the number of the field that has no value.
+const REFUSED: &[(&str, &str, usize, &str)] = &[
+    (
+        "unknown_at, the first of two",
+        "name 1",
+        1,
+        "{members: [], boss: none, email: none}",
+    ),
+    (
+        "unknown_at, before shapes",
+        "name 1",
+        1,
+        "{members: none, boss: none}",
+    ),
+    (
+        "push_values, the first is not given",
+        "field 5",
+        1,
+        "{lead: none}",
+    ),
+    (
+        "push_values, the last is not given",
+        "field 6",
+        1,
+        "{members: []}",
+    ),
+    (
+        "one_given, twice",
+        "field 6",
+        1,
+        "{lead: none, members: [], lead: none}",
+    ),
+    (
+        "one_given, the first twice",
+        "field 5",
+        1,
+        "{members: [], members: [], lead: 5}",
+    ),
+    (
+        "set_named, an id",
+        "field 5",
+        1,
+        "{members: @1, lead: none}",
+    ),
+    (
+        "set_named, none",
+        "field 5",
+        1,
+        "{members: none, lead: none}",
+    ),
+    (
+        "set_named, some",
+        "field 5",
+        1,
+        "{members: some(@1), lead: none}",
+    ),
+    (
+        "set_named, a number",
+        "field 5",
+        1,
+        "{members: 1, lead: none}",
+    ),
+    (
+        "set_named, a text",
+        "field 5",
+        1,
+        "{members: \"\", lead: none}",
+    ),
+    (
+        "set_named, a truth value",
+        "field 5",
+        1,
+        "{members: true, lead: none}",
+    ),
+    (
+        "add_named, a number",
+        "field 5",
+        1,
+        "{members: [@1, 2], lead: none}",
+    ),
+    (
+        "add_named, again",
+        "field 5",
+        1,
+        "{members: [@2, @1, @2], lead: none}",
+    ),
+    (
+        "option_named, an id",
+        "field 6",
+        1,
+        "{members: [], lead: @1}",
+    ),
+    (
+        "option_named, a list",
+        "field 6",
+        1,
+        "{members: [], lead: [@1]}",
+    ),
+    (
+        "option_named, a number",
+        "field 6",
+        1,
+        "{members: [], lead: 1}",
+    ),
+    (
+        "option_named, a text",
+        "field 6",
+        1,
+        "{members: [], lead: \"\"}",
+    ),
+    (
+        "option_named, a truth value",
+        "field 6",
+        1,
+        "{members: [], lead: true}",
+    ),
+    (
+        "base_named, in an option",
+        "field 6",
+        1,
+        "{members: [], lead: some(1)}",
+    ),
+    (
+        "base_named, none in an option",
+        "field 6",
+        1,
+        "{members: [], lead: some(none)}",
+    ),
+    (
+        "base_named, a text",
+        "field 0",
+        0,
+        "{email: 1, age: none, isAdmin: none, secret: 1, manager: @1}",
+    ),
+    (
+        "base_named, a number",
+        "field 1",
+        0,
+        "{email: \"\", age: \"\", isAdmin: none, secret: 1, manager: @1}",
+    ),
+    (
+        "base_named, a truth value",
+        "field 2",
+        0,
+        "{email: \"\", age: 1, isAdmin: 1, secret: 1, manager: @1}",
+    ),
+    (
+        "base_named, an id",
+        "field 4",
+        0,
+        "{email: \"\", age: 1, isAdmin: true, secret: \"\", manager: 1}",
+    ),
+    (
+        "base_named, some",
+        "field 4",
+        0,
+        "{email: \"\", age: 1, isAdmin: true, secret: \"\", manager: some(@1)}",
+    ),
+    (
+        "a row",
+        "row",
+        0,
+        "{email: \"\", age: 1, isAdmin: true, secret: \"\", manager: @9}",
+    ),
+    (
+        "a row in another order",
+        "row",
+        1,
+        "{lead: some(@0), members: [@3, @1]}",
+    ),
+];
+
+/// The tables that a short text spells.
+fn tables_of(alloc: Global, text: &[u8]) -> Result<Items<TableLit>, Fail> {
+    if text.len() > MOST_BYTES {
+        return Err(Fail::new("too long"));
+    }
+    Ok(parse_data(alloc, text)?)
+}
+
+/// Why there is no value.
+fn told_err(alloc: Global, err: LitErr) -> Result<String, Fail> {
+    match err {
+        LitErr::Unknown { place } => Ok(format!(in alloc; "name {place}")?),
+        LitErr::WrongShape { field } => Ok(format!(in alloc; "field {field}")?),
+        LitErr::OutOfMemory => Ok("out of memory".to_string(alloc)?),
+    }
+}
+
+/// What is said of the fields as a row of the model.
+fn told(alloc: Global, s: &Schema, model: usize, fields: &[FieldLit]) -> Result<String, Fail> {
+    let info = s.models.get(model).ok_or("no model")?;
+    match row_from(alloc, info, fields, 7) {
+        Ok(_) => Ok("row".to_string(alloc)?),
+        Err(err) => told_err(alloc, err),
+    }
+}
+
+#[test]
+fn each_shape_refuses(rt: HostRuntime) -> Result<(), Fail> {
+    let alloc = rt.alloc();
+    let s = company(alloc)?;
+    for (place, wanted, model, fields) in REFUSED {
+        let text = format!(in alloc; "Any @2 {{@1 {fields}}}")?;
+        let tables = tables_of(alloc, text.as_bytes())?;
+        let table = tables.get(0).ok_or("no table")?;
+        let record = table.records.get(0).ok_or("no record")?;
+        let told = told(alloc, &s, *model, record.fields.as_slice())?;
+        assert_eq!(rt; told.as_str(), *wanted, "of {place}");
+    }
     Ok(())
 }

@@ -1,14 +1,14 @@
 //! The database of a structure.
 
 use crate::tests::{field, name};
-use sc_build::build;
-use sc_formula::{SVal, Structure};
-use sc_records::Value;
-use sc_schema::{ModelInfo, Schema, TBase, TPolicy, TTy};
+use check_witness::build;
+use data_records::Value;
+use form_formula::{SVal, Structure};
 use sqlite_items::Items;
 use std::alloc::Global;
 use std::rc::Rc;
 use std::test::Fail;
+use type_schema::{ModelInfo, Schema, TBase, TPolicy, TTy};
 
 /// Users with a manager and friends.
 fn users(alloc: Global) -> Result<ModelInfo, Fail> {

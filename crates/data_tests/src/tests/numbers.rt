@@ -3,13 +3,13 @@
 ghost use Rattle.std.specs.Prelude.{◌≡◌};
 
 use crate::tests::{field, name};
-use sc_numbering::{Numbering, signature_of, structure_of};
-use sc_records::Database;
-use sc_schema::{FieldInfo, ModelInfo, Schema, TBase, TPolicy, TTy};
+use data_records::Database;
+use duty_numbering::{Numbering, signature_of, structure_of};
 use sqlite_items::Items;
 use std::alloc::{AllocError, Global};
 use std::rc::Rc;
 use std::test::Fail;
+use type_schema::{FieldInfo, ModelInfo, Schema, TBase, TPolicy, TTy};
 
 fn model(alloc: Global, number: u32, fields: Items<FieldInfo>) -> Result<ModelInfo, Fail> {
     Ok(ModelInfo {

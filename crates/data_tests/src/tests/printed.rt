@@ -3,13 +3,13 @@
 ghost use Rattle.std.specs.Prelude.{◌≡◌, IfOk, length};
 
 use crate::tests::{field, name, text};
-use sc_data_text::print_database;
-use sc_records::{Database, Value};
-use sc_schema::{ModelInfo, Schema, TBase, TPolicy, TTy};
+use data_print::print_database;
+use data_records::{Database, Value};
 use sqlite_items::{Boxed, Items};
 use std::alloc::Global;
 use std::rc::Rc;
 use std::test::Fail;
+use type_schema::{ModelInfo, Schema, TBase, TPolicy, TTy};
 
 /// Users with an email, friends and perhaps an age.
 fn users(alloc: Global) -> Result<ModelInfo, Fail>
@@ -70,5 +70,29 @@ fn users_are_printed(rt: HostRuntime) -> Result<(), Fail> {
         \x20 @1 {email: \"a@x\\n\\x01\", friends: [], age: some(-30)}\n\
         \x20 @2 {email: \"b\", friends: [@1, @2], age: none}\n}\n";
     assert_eq!(rt; printed.as_slice(), wanted);
+    Ok(())
+}
+
+/// Each of 4,096 quotes is printed as two bytes.
+#[test]
+fn a_long_text_is_printed(rt: HostRuntime) -> Result<(), Fail> {
+    let alloc = rt.alloc();
+    let s = schema_of_users(alloc)?;
+    let info = users(alloc)?;
+    let mut database = Database::empty(alloc, &s)?;
+    let mut quotes = Vec::new(alloc);
+    let mut wanted = Vec::from_slice(alloc, b"User @2 {\n  @1 {email: \"")?;
+    for _quote in 0..4_096 {
+        quotes.push(b'"')?;
+        wanted.push(b'\\')?;
+        wanted.push(b'"')?;
+    }
+    let end: &[u8] = b"\", friends: [], age: none}\n}\n";
+    wanted.extend_from_slice(end)?;
+    let email = text(alloc, quotes.as_slice())?;
+    let row = [email, Value::Ids(Items::new(alloc)), Value::Nothing];
+    database.insert(alloc, &info, &row)?;
+    let printed = print_database(alloc, &database, &s)?;
+    assert!(rt; printed.as_slice() == wanted.as_slice());
     Ok(())
 }

@@ -3,13 +3,13 @@
 ghost use Rattle.std.specs.Prelude.{◌≡◌, IfOk, length};
 
 use crate::tests::{field, name, text};
-use sc_data::Principal;
-use sc_records::{DataErr, Database, Value};
-use sc_schema::{ModelInfo, Schema, TBase, TPolicy, TTy};
+use data_meaning::Principal;
+use data_records::{DataErr, Database, Value};
 use sqlite_items::{Boxed, Items};
 use std::alloc::Global;
 use std::rc::Rc;
 use std::test::Fail;
+use type_schema::{ModelInfo, Schema, TBase, TPolicy, TTy};
 
 /// Users with an email, a manager and perhaps an age.
 fn users(alloc: Global) -> Result<ModelInfo, Fail>

@@ -1,15 +1,15 @@
 //! Witnesses and other reports.
 
 use crate::tests::name;
-use sc_data::Principal;
-use sc_duty::Duty;
-use sc_records::Database;
-use sc_schema::{Kind, ModelInfo, Right, Schema, StaticInfo, TCommand, TPolicy, TScript, Target};
-use sc_witness_text::{Witness, print_too_large, print_undecided, print_witness};
+use check_report::{Witness, print_too_large, print_undecided, print_witness};
+use data_meaning::Principal;
+use data_records::Database;
+use duty_meaning::Duty;
 use sqlite_items::Items;
 use std::alloc::Global;
 use std::rc::Rc;
 use std::test::Fail;
+use type_schema::{Kind, ModelInfo, Right, Schema, StaticInfo, TCommand, TPolicy, TScript, Target};
 
 /// A model without fields.
 fn grant(alloc: Global) -> Result<ModelInfo, Fail> {

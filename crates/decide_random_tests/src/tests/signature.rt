@@ -1,7 +1,7 @@
 //! The signature of the formulas and structures.
 
 use decide_trial::signature_of;
-use sc_formula::{FunSig, Range, SetSig, Signature};
+use form_formula::{FunSig, Range, SetSig, Signature};
 use sqlite_items::Items;
 use std::alloc::{AllocError, Global};
 

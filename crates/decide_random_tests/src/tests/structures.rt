@@ -1,6 +1,6 @@
 //! All structures of at most three elements, with three numbers.
 
-use sc_formula::{SVal, Structure};
+use form_formula::{SVal, Structure};
 use sqlite_items::Items;
 use std::alloc::{AllocError, Global};
 

@@ -3,7 +3,7 @@
 use crate::tests::signatures::function_to;
 use crate::tests::verdicts::{Kind, kind_of};
 use decide_trial::Forms;
-use sc_formula::{Range, Signature};
+use form_formula::{Range, Signature};
 use std::alloc::{AllocError, Global};
 use std::test::Fail;
 

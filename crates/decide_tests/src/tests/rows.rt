@@ -3,8 +3,8 @@
 use crate::tests::signatures::{function_to, related_back};
 use crate::tests::verdicts::{Kind, kind_of};
 use decide_trial::Forms;
-use sc_decide::Verdict;
-use sc_formula::{Range, SVal};
+use decide_verdict::Verdict;
+use form_formula::{Range, SVal};
 use std::alloc::{AllocError, Global};
 use std::test::Fail;
 

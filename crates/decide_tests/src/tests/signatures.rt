@@ -1,9 +1,9 @@
 //! Signatures.
 
 ghost use Rattle.std.specs.Prelude.{◌∷◌, [], IsTrue};
-ghost use Rattle.sc_formula.specs.Signature.{is_signature};
+ghost use Rattle.form_formula.specs.Signature.{is_signature};
 
-use sc_formula::{FunSig, Range, SetSig, Signature};
+use form_formula::{FunSig, Range, SetSig, Signature};
 use sqlite_items::Items;
 use std::alloc::{AllocError, Global};
 

@@ -4,7 +4,7 @@
 use crate::tests::signatures::{function_to, related_back};
 use crate::tests::verdicts::{Kind, kind_of};
 use decide_trial::Forms;
-use sc_formula::Range;
+use form_formula::Range;
 use std::alloc::{AllocError, Global};
 use std::test::Fail;
 

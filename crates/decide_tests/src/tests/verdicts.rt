@@ -1,6 +1,6 @@
 //! Verdicts, by their names.
 
-use sc_decide::Verdict;
+use decide_verdict::Verdict;
 
 /// Which verdict it is.
 #[derive(Clone, Copy, Debug, PartialEq, Eq)]

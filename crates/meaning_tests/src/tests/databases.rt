@@ -2,11 +2,11 @@
 
 ghost use Rattle.std.specs.Prelude.{◌≡◌};
 
-use sc_ast::Txt;
-use sc_records::{Database, Value};
-use sc_schema::{ModelInfo, Schema};
+use data_records::{Database, Value};
 use std::alloc::Global;
 use std::test::Fail;
+use text_ast::Txt;
+use type_schema::{ModelInfo, Schema};
 
 /// The text with these bytes, as a value.
 pub fn text(alloc: Global, bytes: &[u8]) -> Result<Value, Fail> {
@@ -53,6 +53,20 @@ fn insert_two(alloc: Global, database: &mut Database, info: &ModelInfo) -> Resul
     insert(alloc, database, info, first.as_slice())?;
     let second = row(alloc, b"b@x", 20, false, b"s2")?;
     insert(alloc, database, info, second.as_slice())
+}
+
+/// The database of the two users and so many further ones, over a schema whose first model is
+/// theirs.
+pub fn more_users(alloc: Global, schema: &Schema, more: u32) -> Result<Database, Fail> {
+    let mut database = two_users(alloc, schema)?;
+    let Some(info) = schema.models.as_slice().first() else {
+        return Err(Fail::new("no model"));
+    };
+    for _user in 0..more {
+        let user = row(alloc, b"c@x", 40, false, b"s3")?;
+        insert(alloc, &mut database, info, user.as_slice())?;
+    }
+    Ok(database)
 }
 
 /// The database of the two users, over a schema whose first model is theirs.

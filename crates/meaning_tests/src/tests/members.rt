@@ -1,15 +1,14 @@
 //! Who is in a set, whom a policy allows, what an initialiser gives and reads.
 
-use crate::tests::databases::two_users;
+use crate::tests::databases::{more_users, two_users};
 use crate::tests::obligations::{AGE, IS_ADMIN, MANAGER, first_init};
 use crate::tests::typed;
-use sc_data::Principal;
-use sc_eval::Cell;
-use sc_members::{PrincipalSet, allows, init_value, members, touched};
-use sc_records::{Database, Value};
-use sc_schema::{TCommand, TPolicy, TScript, TSet};
+use data_meaning::{Cell, Principal};
+use data_members::{PrincipalSet, allows, init_value, members, touched};
+use data_records::{Database, Value};
 use std::alloc::Global;
 use std::test::Fail;
+use type_schema::{TCommand, TPolicy, TScript, TSet};
 
 /// A level for admins.
 const LEVEL: &[u8] =
@@ -197,6 +196,10 @@ fn is_wanted(value: &Value, wanted: &Wanted) -> bool {
     }
 }
 
+/// Reads the age and the sign of admins at each user.
+const BOSS_OF_OLD: &[u8] = b"User::AddField(a: Set(Id(User)) {read: none, write: none},
+    u -> User::Find({isAdmin: false}) + User::Find({age >= 40}))";
+
 /// What the initialiser of the first command gives at the user of this id.
 fn given_at(alloc: Global, script: &[u8], id: u64) -> Result<Value, Fail> {
     let t = typed(alloc, script)?;
@@ -272,5 +275,23 @@ fn initialisers_read_cells(rt: HostRuntime) -> Result<(), Fail> {
         let cells = read_at(rt.alloc(), script, id)?;
         assert_eq!(rt; cells.as_slice(), want, "in {script:?}");
     }
+    Ok(())
+}
+
+#[test]
+fn many_cells_are_read(rt: HostRuntime) -> Result<(), Fail> {
+    let alloc = rt.alloc();
+    let t = typed(alloc, BOSS_OF_OLD)?;
+    let database = more_users(alloc, &t.start, 98)?;
+    let Some(init) = first_init(&t) else {
+        return Err(Fail::new("no initialiser"));
+    };
+    let cells = touched(alloc, &database, init, 1)?;
+    let mut wanted = Vec::new(alloc);
+    for id in 1..=100 {
+        wanted.push(cell(id, AGE))?;
+        wanted.push(cell(id, IS_ADMIN))?;
+    }
+    assert!(rt; cells.as_slice() == wanted.as_slice());
     Ok(())
 }

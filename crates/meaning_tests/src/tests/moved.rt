@@ -3,14 +3,14 @@
 use crate::tests::databases::{insert, text};
 use crate::tests::typed;
 use crate::tests::written::{SCRIPT, last_schema};
-use sc_data::Principal;
-use sc_data_text::print_database;
-use sc_members::allows;
-use sc_records::{Database, Value};
-use sc_renumber::renumber;
-use sc_schema::{FieldInfo, Schema};
+use data_meaning::Principal;
+use data_members::allows;
+use data_print::print_database;
+use data_records::{Database, Value};
 use std::alloc::Global;
 use std::test::Fail;
+use type_anew::renumber;
+use type_schema::{FieldInfo, Schema};
 
 /// Two users, of whom the second has written a note.
 const NOTED: &[u8] = b"User @3 {

@@ -1,10 +1,10 @@
 //! Kinds, obligations and uses.
 
 use crate::tests::typed;
-use sc_obligations::{Use, duties, kinds, uses_in};
-use sc_schema::{Kind, TCommand, TInit, TScript};
+use duty_listing::{Use, duties, kinds, uses_in};
 use std::alloc::Global;
 use std::test::Fail;
+use type_schema::{Kind, TCommand, TInit, TScript};
 
 const EMAIL: u32 = 0;
 

@@ -1,13 +1,13 @@
 //! Printed databases and witnesses, read back.
 
 use crate::tests::{USERS, schema_of_text, typed};
-use sc_data::Principal;
-use sc_data_back::read_printed;
-use sc_data_text::print_database;
-use sc_schema::Target;
-use sc_witness_back::{read_witness, schemas_are_numbered};
-use sc_witness_text::print_witness;
+use check_report::print_witness;
+use check_report_back::{read_witness, schemas_are_numbered};
+use data_back::read_printed;
+use data_meaning::Principal;
+use data_print::print_database;
 use std::test::Fail;
+use type_schema::Target;
 
 /// Two users, in the spelling in which they are printed.
 const TWO: &[u8] = b"User @3 {

@@ -1,12 +1,11 @@
 //! Schemas as texts again, and numbered anew.
 
 use crate::tests::{schema_of_text, typed};
-use sc_print::print_spec;
-use sc_renumber::renumber;
-use sc_schema::{ModelInfo, Schema, TScript};
-use sc_spec_of::spec_of;
 use std::alloc::Global;
 use std::test::Fail;
+use text_print::print_spec;
+use type_anew::{renumber, spec_of};
+use type_schema::{ModelInfo, Schema, TScript};
 
 /// A specification in its canonical spelling.
 const SIGNS: &[u8] = b"static Visitor

@@ -1,7 +1,7 @@
 //! The order of refusals, and faults of the shelf and the output.
 
-use sc_run::Status;
-use sc_trial::{Ended, File, run_failing};
+use app_run::Status;
+use app_trial::{Ended, File, run_failing};
 use std::alloc::Global;
 use std::test::Fail;
 

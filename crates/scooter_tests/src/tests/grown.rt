@@ -1,7 +1,7 @@
 //! A specification and scripts that grow. Their texts are written here by hand, too.
 
-use sc_run::Status;
-use sc_trial::{check_texts, run_over};
+use app_run::Status;
+use app_trial::{check_texts, run_over};
 use std::alloc::Global;
 use std::test::Fail;
 

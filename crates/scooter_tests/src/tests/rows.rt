@@ -1,7 +1,7 @@
 //! Worked scripts, each with what its check answers.
 
-use sc_run::Status;
-use sc_trial::check_texts;
+use app_run::Status;
+use app_trial::check_texts;
 use std::test::Fail;
 
 const NOTES: &[u8] = b"static Visitor

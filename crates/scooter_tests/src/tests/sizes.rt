@@ -1,7 +1,7 @@
 //! Pairs of many sizes, up to the limits of the language, with ample memory.
 
-use sc_run::{MOST_FILE_BYTES, Status};
-use sc_trial::check_texts;
+use app_run::{MOST_FILE_BYTES, Status};
+use app_trial::check_texts;
 use std::alloc::{AllocError, Global};
 use std::test::Fail;
 

@@ -1,8 +1,8 @@
 //! A run over objects that never fail.
 
-use sc_flow::{MemFile, SureShelf, SureSink};
-use sc_run::{Status, run_surely};
-use sc_trial::words_of;
+use app_flow::{MemFile, SureShelf, SureSink};
+use app_run::{Status, run_surely};
+use app_trial::words_of;
 use std::alloc::AllocError;
 use std::test::Fail;
 
@@ -17,7 +17,7 @@ fn accepted_over_sure_objects(rt: HostRuntime) -> Result<(), Fail> {
             .map_err(AllocError::from)?;
     }
     let words = words_of(alloc, &["check", "n.spec", "s.scm"])?;
-    let mut shelf = SureShelf::new(files);
+    let mut shelf = SureShelf::new(alloc, files);
     let mut out = SureSink::new(alloc, 64)?;
     let status = run_surely(alloc, words.as_slice(), &mut shelf, &mut out);
     assert_eq!(rt; status, Status::Done);

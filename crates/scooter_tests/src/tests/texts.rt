@@ -1,7 +1,7 @@
 //! Texts of the whole language that spell a tree, and that are refused for a cause at a place.
 
-use sc_run::Status;
-use sc_trial::check_texts;
+use app_run::Status;
+use app_trial::check_texts;
 use std::alloc::{AllocError, Global};
 use std::test::Fail;
 
@@ -31,6 +31,11 @@ fn one_cause_and_its_place(rt: HostRuntime) -> Result<(), Fail> {
             b"s.scm: not grammar at token 5\n",
         ),
         (b"AddStatic(Set)", b"s.scm: not grammar at token 2\n"),
+        // A fault of types in an earlier command comes behind it.
+        (
+            b"DeleteModel(Nothing) AddStatic(A",
+            b"s.scm: not grammar at token 7\n",
+        ),
     ];
     for (script, output) in rows {
         let ended = check_texts(rt.alloc(), b"", script)?;

@@ -1,6 +1,6 @@
 use Rattle.std.proofs.Common.{take}
 use Rattle.std.specs.List.{AllByRecursion}
-use Rattle.sc_commands.specs.CommandLaw.{IsWritten}
+use Rattle.type_commands.specs.CommandLaw.{IsWritten}
 use Rattle.meaning_tests.proofs.tests.are_written.Given as goal
 
 abbrev pub invariant-loop-command : goal.invariant-loop-command

@@ -1,0 +1,3 @@
+pub mod OutsideLemmas
+pub mod ToldLemmas
+pub mod ReadsLemmas

@@ -1,0 +1,10 @@
+pub mod Adapters
+pub mod Attempts
+pub mod Faults
+pub mod Files
+pub mod Folders
+pub mod Outside
+pub mod Public
+pub mod Shelves
+pub mod Sinks
+pub mod Told

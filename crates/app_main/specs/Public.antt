@@ -1,0 +1,2 @@
+-- The words of this crate's contracts.
+pub use Rattle.app_main.specs.Arguments.{AreWordsOf}

@@ -1,0 +1,101 @@
+//! The program over objects in memory.
+
+use crate::program::run_over_objects;
+use app_flow::{MemFile, MemShelf, MemSink};
+use app_run::Status;
+use std::alloc::{AllocError, Global};
+use text_ast::Txt;
+
+/// How many bytes the output holds at most.
+const OUTPUT_BYTES: usize = 262_144;
+
+/// How many bytes the output takes at one put.
+const PUT_BYTES: usize = 7;
+
+/// A file in memory: its name and its text.
+#[derive(Clone, Copy)]
+pub struct File<'t> {
+    /// The name.
+    pub name: &'t str,
+    /// The bytes.
+    pub text: &'t [u8],
+}
+
+/// How a run ended.
+#[derive(Drop)]
+pub struct Ended {
+    /// Its status.
+    pub status: Status,
+    /// What it wrote.
+    pub output: Vec<u8>,
+    /// How often it fetched a file.
+    pub fetches: u64,
+}
+
+/// The texts as words. One that is no word is left out.
+pub fn words_of(alloc: Global, texts: &[&str]) -> Result<Vec<Txt>, AllocError> {
+    let mut words = Vec::new(alloc);
+    for text in texts {
+        if let Some(word) = Txt::make(Vec::from_slice(alloc, text.as_bytes())?) {
+            words.push(word).map_err(AllocError::from)?;
+        }
+    }
+    Ok(words)
+}
+
+/// A shelf with the files, whose fetches of these numbers fail.
+fn shelf_of(alloc: Global, files: &[File<'_>], failing: &[u64]) -> Result<MemShelf, AllocError> {
+    let mut kept = Vec::new(alloc);
+    for file in files {
+        let name = Vec::from_slice(alloc, file.name.as_bytes())?;
+        let text = Vec::from_slice(alloc, file.text)?;
+        kept.push(MemFile::new(name, text))
+            .map_err(AllocError::from)?;
+    }
+    Ok(MemShelf::new(alloc, kept, Vec::from_slice(alloc, failing)?))
+}
+
+/// Runs the words over the files, with an output that takes at most seven bytes at once. The
+/// fetches and the puts of these numbers, from 0, fail.
+pub fn run_failing(
+    alloc: Global,
+    words: &[&str],
+    files: &[File<'_>],
+    fetches: &[u64],
+    puts: &[u64],
+) -> Result<Ended, AllocError> {
+    let words = words_of(alloc, words)?;
+    let mut shelf = shelf_of(alloc, files, fetches)?;
+    let mut out = MemSink::new(
+        alloc,
+        OUTPUT_BYTES,
+        PUT_BYTES,
+        Vec::from_slice(alloc, puts)?,
+    )?;
+    let status = run_over_objects(alloc, words.as_slice(), &mut shelf, &mut out);
+    Ok(Ended {
+        status,
+        output: Vec::from_slice(alloc, out.bytes())?,
+        fetches: shelf.fetches(),
+    })
+}
+
+/// Runs the words over the files, and no call fails.
+pub fn run_over(alloc: Global, words: &[&str], files: &[File<'_>]) -> Result<Ended, AllocError> {
+    run_failing(alloc, words, files, &[], &[])
+}
+
+/// Checks the script, under the name `s.scm`, over the specification, under the name `n.spec`.
+pub fn check_texts(alloc: Global, spec: &[u8], script: &[u8]) -> Result<Ended, AllocError> {
+    let files = [
+        File {
+            name: "n.spec",
+            text: spec,
+        },
+        File {
+            name: "s.scm",
+            text: script,
+        },
+    ];
+    run_over(alloc, &["check", "n.spec", "s.scm"], &files)
+}

@@ -1,0 +1,10 @@
+use Rattle.std.proofs.Common.{◌≡◌, ◌++◌, take}
+use Rattle.std.specs.List.{flat_map}
+use Rattle.type_schema.specs.SchemaViews.{model_info_of, script_of}
+use Rattle.data_print.specs.Texts.{table_text}
+use Rattle.check_witness.specs.Printed.{model_text}
+use Rattle.check_report.proofs.witness.write_tables.Given as goal
+
+abbrev pub invariant-loop-info : goal.invariant-loop-info
+invariant-loop-info l =
+    l.out ≡ l.fn.out ++ flat_map (λ m. table_text (model_text (script_of l.t) m.number) l.base (model_info_of m)) (take l.info-index l.models)

@@ -1,0 +1,14 @@
+pub mod BaseRead
+pub mod Gained
+pub mod HeadRead
+pub mod InOrder
+pub mod Leaked
+pub mod Marks
+pub mod Names
+pub mod NamesTold
+pub mod Numbered
+pub mod Present
+pub mod ReadBack
+pub mod Searches
+pub mod UsesThere
+pub mod WitnessCuts

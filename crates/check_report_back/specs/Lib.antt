@@ -1,0 +1,5 @@
+pub mod Back
+pub mod Printed
+pub mod Public
+pub mod Scripts
+pub mod Told

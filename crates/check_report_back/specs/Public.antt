@@ -1,0 +1,5 @@
+-- The words that speak of witnesses which are read back.
+-- The words that speak of witnesses and their texts.
+pub use Rattle.check_report_back.specs.Printed.{IsPrincipalOn, IsCellOn, IsWitnessOn, IsReadBack, GainsAreWitnesses, LeaksAreWitnesses, WitnessesComeBack}
+pub use Rattle.check_report_back.specs.Scripts.{IsCommandOf, SchemasAreNumbered}
+pub use Rattle.check_report_back.specs.Told.{statics_in, HasNames, IsTargetAt, IsPrincipalIn, IsCellAt, IsWitnessOf, WitnessTextsTell, BuiltStandInOrder}

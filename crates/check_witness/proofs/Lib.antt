@@ -1,0 +1,13 @@
+pub mod Databases
+pub mod Failing
+pub mod Kept
+pub mod Lists
+pub mod Looked
+pub mod Places
+pub mod Related
+pub mod Rising
+pub mod Scripts
+pub mod Structures
+pub mod Truths
+pub mod WorkedDatabases
+pub mod WorkedTexts

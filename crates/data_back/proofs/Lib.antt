@@ -1,0 +1,10 @@
+pub mod Each
+pub mod LookedAt
+pub mod Printed
+pub mod ReadPrinted
+pub mod ScanTurns
+pub mod Shaped
+pub mod TablesRead
+pub mod TextTests
+pub mod Turns
+pub mod ValuesRead

@@ -1,0 +1,16 @@
+pub mod Agreement
+pub mod Carried
+pub mod Changes
+pub mod Finds
+pub mod Kept
+pub mod Lookup
+pub mod Meanings
+pub mod Members
+pub mod Policies
+pub mod Runs
+pub mod Soundness
+pub mod Steps
+pub mod Tests
+pub mod TouchedCells
+pub mod Widened
+pub mod WorkedValues

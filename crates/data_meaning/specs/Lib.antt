@@ -1,0 +1,13 @@
+pub mod Agreeing
+pub mod Database
+pub mod FieldsTyped
+pub mod Gain
+pub mod Meaning
+pub mod Public
+pub mod Run
+pub mod Runs
+pub mod Secure
+pub mod Sound
+pub mod Touched
+pub mod Values
+pub mod Worked

@@ -1,0 +1,14 @@
+use Rattle.std.proofs.Common.{◌≡◌, ◌-◌, [], ◌∷◌}
+use Rattle.std.specs.List.{fold}
+use Rattle.text_tree.specs.Forms.{AnyNumber, Upper, each}
+use Rattle.data_tree.specs.Grammar.{table_form}
+use Rattle.text_grammar.specs.Reading.{made}
+use Rattle.text_syntax.specs.Parts.{pushed}
+use Rattle.text_syntax.proofs.Folds.{folded}
+use Rattle.data_parse.specs.Reads.{reading}
+use Rattle.data_parse.proofs.values.Values.more_tables.Given as goal
+
+abbrev pub invariant-loop-turn : goal.invariant-loop-turn
+invariant-loop-turn l =
+    made (fold pushed l.fn.found) (reading l.self.levels (each AnyNumber (table_form)) l.fn.cursor)
+    ≡ folded pushed (Upper ∷ []) (reading l.self.levels (table_form)) (l._turn-end - l._turn) l.found l.cursor

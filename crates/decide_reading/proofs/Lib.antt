@@ -1,0 +1,9 @@
+pub mod BrokenLaws
+pub mod ByColumns
+pub mod CongruentMet
+pub mod DemandSteps
+pub mod Functional
+pub mod KeyLaws
+pub mod PairLaws
+pub mod Parts
+pub mod Steps

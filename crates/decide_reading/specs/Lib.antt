@@ -1,0 +1,7 @@
+pub mod Broken
+pub mod Columns
+pub mod Congruent
+pub mod Few
+pub mod Keys
+pub mod Public
+pub mod Settled

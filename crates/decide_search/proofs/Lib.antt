@@ -1,0 +1,10 @@
+pub mod Encoded
+pub mod Fixed
+pub mod Glue
+pub mod Halved
+pub mod Loops
+pub mod ModelColumns
+pub mod Places
+pub mod Rounds
+pub mod Solved
+pub mod TextLists

@@ -1,0 +1,12 @@
+use Rattle.decide_search.proofs.Halved.{same_sides}
+use Rattle.decide_search.proofs.Solved.{ok_too, some_too}
+use Rattle.decide_search.proofs.atoms.atom_of_same.Goals as goal
+
+pub returns : goal.returns
+returns c =
+    ok_too c.same_atom.result _ _
+    (λ atom h. some_too atom _ _
+    (λ pair k.
+    same_sides c.args.reader.signature.now c.args.reader.arena.now c.args.reader.terms.now c.args.reader.words.now c.args.reader.texts.now c.args.v c.args.u c.in_ok-left.left
+    c.in_ok-right.right pair c.in_ok-left.ensures c.in_ok-right.ensures k) h)
+    c.same_atom.ensures

@@ -1,0 +1,5 @@
+use Rattle.std.proofs.Common.{◌≡◌, ◌++◌, map, take}
+use Rattle.decide_search.proofs.problem.push_copies.Given as goal
+
+abbrev pub invariant-loop-clause : goal.invariant-loop-clause
+invariant-loop-clause l = l.all.list ≡ l.initial.all.list ++ map (λ c. c.items) (take l.clause-index l.clauses)

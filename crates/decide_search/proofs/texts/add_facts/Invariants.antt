@@ -1,0 +1,5 @@
+use Rattle.decide_search.specs.Texts.{KeepsOnce}
+use Rattle.decide_search.proofs.texts.add_facts.Given as goal
+
+abbrev pub invariant-loop-fact : goal.invariant-loop-fact
+invariant-loop-fact l = KeepsOnce l.initial.texts.items l.texts.items

@@ -1,0 +1,23 @@
+use Rattle.std.proofs.Common.{Option, subst, true}
+use Rattle.std.specs.Prelude.{IfSome}
+use Rattle.form_formula.specs.Nodes.{formula_of}
+use Rattle.ground_terms.specs.TermLists.{terms_in}
+use Rattle.form_tables.proofs.TermsFormed.{terms_herbrand}
+use Rattle.decide_verdict.specs.declared.trying.Tried.{Tried}
+use Rattle.decide_verdict.specs.Tried.{IsTriedOver}
+use Rattle.decide_verdict.proofs.Judged.{stratified_safe, stratified_found}
+use Rattle.decide_verdict.proofs.stratified.decide_over.Goals as goal
+
+pub try_terms-requires-clause-formed : goal.try_terms-requires-clause-formed
+try_terms-requires-clause-formed c = terms_herbrand c.args.signature.now (formula_of c.args.arena.now c.args.id) c.requires.over (terms_in c.args.terms) c.requires.listed
+
+pub returns-in-None : goal.returns-in-None
+returns-in-None c = λ f same.
+    stratified_safe c.args.signature.now f (formula_of c.args.arena.now c.args.id) c.requires.over c.requires.normal same c.requires.stratified (terms_in c.args.terms) c.requires.listed
+    c.requires.within (c.in_ok-try_terms.ensures.none c.in-None.is)
+
+pub returns-in-Some : goal.returns-in-Some
+returns-in-Some c = λ f same.
+    let P : Option Tried → Type 0 = λ o. IfSome o (IsTriedOver c.args.signature.now (formula_of c.args.arena.now c.args.id) (terms_in c.args.terms) true) in
+    stratified_found c.args.signature.now f (formula_of c.args.arena.now c.args.id) c.requires.over c.requires.normal same c.requires.stratified (terms_in c.args.terms) c.requires.listed
+    c.requires.within c.in-Some.tried (subst P c.in-Some.is c.in_ok-try_terms.ensures.some)

@@ -1,0 +1,10 @@
+use Rattle.std.proofs.Common.{◌≡◌, ◌++◌, map, take}
+use Rattle.type_schema.specs.SchemaViews.{field_info_of}
+use Rattle.duty_numbering.specs.Numbers.{function_spots, place_at, relation_spots}
+use Rattle.duty_numbering.proofs.spots.Spots.add_model.Given as goal
+
+abbrev pub invariant-loop-field : goal.invariant-loop-field
+invariant-loop-field l = record {
+  functions : l.self.functions.items ≡ l.initial.self.functions.items ++ function_spots (map (place_at l.model.number) (map field_info_of (take l.field-index l.field-items)));
+  relations : l.self.relations.items ≡ l.initial.self.relations.items ++ relation_spots (map (place_at l.model.number) (map field_info_of (take l.field-index l.field-items)));
+}

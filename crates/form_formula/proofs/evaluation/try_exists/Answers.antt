@@ -1,0 +1,7 @@
+use Rattle.form_formula.proofs.MoveLemmas.{move_exists, move_to}
+use Rattle.form_formula.proofs.evaluation.try_exists.Goals as goal
+
+pub returns : goal.returns
+returns c s nodes body waits =
+    move_to s nodes c.args.waiting.now.frames.items _ _ _ _ _ _ _ c.in_ok-push_choice.ensures.frames c.in_ok-push_choice.ensures.elements
+    (move_exists s nodes c.args.waiting.now.frames.items c.args.waiting.now.elements.items c.args.choice waits body c.if-choice.false)

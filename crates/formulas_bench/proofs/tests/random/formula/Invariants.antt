@@ -1,6 +1,0 @@
-use Rattle.std.proofs.Common.{◌≤◌, ◌+◌, ◌*◌, length}
-use Rattle.sc_formula.specs.Nodes.{IsFormula}
-use Rattle.formulas_bench.proofs.tests.random.formula.Given as goal
-
-abbrev pub invariant-loop-turn : goal.invariant-loop-turn
-invariant-loop-turn l = IsFormula l.arena l.last × (length l.arena ≤ length l.fn.arena + 5 + 7 * l._turn)

@@ -1,0 +1,10 @@
+pub mod Added
+pub mod Clauses
+pub mod Encoded
+pub mod Gates
+pub mod Literals
+pub mod Meaning
+pub mod Names
+pub mod Parted
+pub mod Public
+pub mod Said

@@ -1,0 +1,16 @@
+pub mod Adding
+pub mod AllLaws
+pub mod AtomsSaid
+pub mod Below
+pub mod CheckLaws
+pub mod CongruenceLaws
+pub mod Decided
+pub mod FactsSaid
+pub mod FieldLaws
+pub mod GroundLaws
+pub mod Grounded
+pub mod NumberLaws
+pub mod SpokenLaws
+pub mod TellingLaws
+pub mod TermLaws
+pub mod Tied

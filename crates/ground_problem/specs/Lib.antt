@@ -1,0 +1,13 @@
+pub mod Congruence
+pub mod Facts
+pub mod Ground
+pub mod GroundClauses
+pub mod InputFacts
+pub mod Inputs
+pub mod Numbers
+pub mod Public
+pub mod Says
+pub mod Spoken
+pub mod Telling
+pub mod Words
+pub mod WordsFound

@@ -1,0 +1,17 @@
+pub mod Alike
+pub mod AllRounds
+pub mod AppliedTerms
+pub mod Chains
+pub mod Codes
+pub mod CountRounds
+pub mod Fewer
+pub mod Keepers
+pub mod Marks
+pub mod NeededRounds
+pub mod Placement
+pub mod SameTerms
+pub mod Sharing
+pub mod Standing
+pub mod TreeLemmas
+pub mod TreeSizes
+pub mod WalkLemmas

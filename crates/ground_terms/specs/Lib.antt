@@ -1,0 +1,14 @@
+pub mod Applying
+pub mod Basis
+pub mod Codes
+pub mod Counting
+pub mod Keeping
+pub mod Limited
+pub mod Needed
+pub mod Nodes
+pub mod Parts
+pub mod Public
+pub mod Standing
+pub mod TermLists
+pub mod Variables
+pub mod Walk

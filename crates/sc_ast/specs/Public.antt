@@ -1,4 +1,0 @@
--- The words that speak of names, texts and the pieces of a text, and the limits of the language.
-pub use Rattle.sc_ast.specs.Limits.{most_levels, most_tokens, most_statics, most_models, most_fields, most_commands}
-pub use Rattle.sc_ast.specs.Words.{IsName, IsText}
-pub use Rattle.sc_ast.specs.Pieces.{Piece, piece_of, pieces_of}

@@ -1,7 +1,0 @@
-use Rattle.std.proofs.Common.{◌≡◌, ◌==◌, suc, map}
-use Rattle.std.specs.Prelude.{filter}
-use Rattle.std.specs.List.{list_any, range_with_len}
-use Rattle.sc_build.proofs.values.ids_among.Given as goal
-
-abbrev pub invariant-loop-y : goal.invariant-loop-y
-invariant-loop-y l = l.ids ≡ map suc (filter (λ y. list_any (λ z. z == y) l.others) (range_with_len 0 l.y))

@@ -1,2 +1,0 @@
--- The words of this crate's public contracts.
-pub use Rattle.sc_builder.specs.Values.{schema_in, written_upto, written_in, who_data, scene_data, end_data, source_data, part_data}

@@ -1,3 +1,0 @@
-pub mod Cleared
-pub mod Kept
-pub mod Sorts

@@ -1,7 +1,0 @@
-use Rattle.std.proofs.Common.{◌≤◌, take}
-use Rattle.std.specs.List.{AllByRecursion}
-use Rattle.sc_data.specs.Values.{last_id}
-use Rattle.sc_checker.proofs.obligations.has_ids.Given as goal
-
-abbrev pub invariant-loop-size : goal.invariant-loop-size
-invariant-loop-size l = AllByRecursion (λ n. n ≤ last_id) (take l.size-index l.sizes)

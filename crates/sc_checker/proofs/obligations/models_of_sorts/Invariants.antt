@@ -1,7 +1,0 @@
-use Rattle.std.proofs.Common.{◌≡◌, map, take}
-use Rattle.sc_schema.specs.SchemaViews.{script_of}
-use Rattle.sc_verdict.specs.Outcomes as spec
-use Rattle.sc_checker.proofs.obligations.models_of_sorts.Given as goal
-
-abbrev pub invariant-loop-sort : goal.invariant-loop-sort
-invariant-loop-sort l = l.models.items ≡ map (spec.model_of_sort (script_of l.t)) (take l.sort-index l.sorts)

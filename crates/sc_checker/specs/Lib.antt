@@ -1,3 +1,0 @@
-pub mod Safe
-pub mod Public
-pub mod Views

@@ -1,2 +1,0 @@
--- The words that speak of checked scripts.
-pub use Rattle.sc_checker.specs.Views.{outcome_data}

@@ -1,6 +1,0 @@
-pub mod Adding
-pub mod AllLaws
-pub mod CongruenceLaws
-pub mod GroundLaws
-pub mod NumberLaws
-pub mod TermLaws

@@ -1,6 +1,0 @@
-use Rattle.std.proofs.Common.{take}
-use Rattle.sc_clauses.specs.Numbers.{IsLiteralFor, KeepsFacts, Zips}
-use Rattle.sc_clauses.proofs.numbering.Numbering.clause.Given as goal
-
-abbrev pub invariant-loop-l : goal.invariant-loop-l
-invariant-loop-l l = KeepsFacts l.initial.self l.self × Zips (IsLiteralFor l.self.facts.keys) l.literals.items (take l.l-index l.facts)

@@ -1,6 +1,0 @@
-use Rattle.std.proofs.Common.{true, ap}
-use Rattle.sc_schema.specs.Schema.{ModelInfo}
-use Rattle.sc_commands.proofs.changes.as_principal.Goals as goal
-
-pub returns : goal.returns
-returns c = ap (λ (m : ModelInfo). record m { principal = true }) c.in_ok-changed.ensures

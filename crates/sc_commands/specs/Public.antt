@@ -1,7 +1,0 @@
--- The words that speak of typed commands and scripts.
-pub use Rattle.sc_commands.specs.Users.{uses, goes_with, users, first_user}
-pub use Rattle.sc_commands.specs.Resolved.{resolved}
-pub use Rattle.sc_commands.specs.Commands.{command_sizes, command_places, typed_command}
-pub use Rattle.sc_commands.specs.Scripts.{Steps, steps, typed_script, GivesScript}
-pub use Rattle.sc_commands.specs.Worked.{WorkedCommands}
-pub use Rattle.sc_commands.specs.CommandLaw.{CommandsAreResolved}

@@ -1,4 +1,0 @@
-pub mod Database
-pub mod FieldsTyped
-pub mod Public
-pub mod Values

@@ -1,8 +1,0 @@
-use Rattle.std.proofs.Common.{◌≡◌, drop}
-use Rattle.sc_data_judge.specs.Faults as spec
-use Rattle.sc_data_judge.specs.First.{first_behind}
-use Rattle.sc_data_judge.specs.Meaning.{with_item}
-use Rattle.sc_data_judge.proofs.faults.items_fault.Given as goal
-
-abbrev pub invariant-loop-l : goal.invariant-loop-l
-invariant-loop-l l = spec.items_fault l.items ≡ first_behind spec.item_fault with_item l.seen (drop l.l-index l.items)

@@ -1,5 +1,0 @@
-use Rattle.sc_data_judge.proofs.Examples.{worked}
-use Rattle.sc_data_judge.proofs.laws.worked_data.Goals as goal
-
-pub returns : goal.returns
-returns c = worked

@@ -1,5 +1,0 @@
-use Rattle.std.proofs.Common.{length}
-use Rattle.sc_data_judge.proofs.limits.+without_slots.Given as goal
-
-abbrev pub decreases-without_slots : goal.decreases-without_slots
-decreases-without_slots l = length l.slots.now

@@ -1,5 +1,0 @@
-use Rattle.std.proofs.Common.{length}
-use Rattle.sc_data_judge.proofs.limits.+without_tables.Given as goal
-
-abbrev pub decreases-without_tables : goal.decreases-without_tables
-decreases-without_tables l = length l.tables.now

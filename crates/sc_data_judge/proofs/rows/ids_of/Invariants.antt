@@ -1,7 +1,0 @@
-use Rattle.std.proofs.Common.{◌≡◌, drop, []}
-use Rattle.std.specs.List.{fold}
-use Rattle.sc_data_judge.specs.Meaning.{with_item}
-use Rattle.sc_data_judge.proofs.rows.ids_of.Given as goal
-
-abbrev pub invariant-loop-l : goal.invariant-loop-l
-invariant-loop-l l = fold with_item l.seen (drop l.l-index l.items) ≡ fold with_item [] l.items

@@ -1,6 +1,0 @@
-use Rattle.std.proofs.Common.{sym, ◌∙◌}
-use Rattle.sc_texts.proofs.JudgedTexts.{first_none}
-use Rattle.sc_data_parse.proofs.texts.next_offset.Goals as goal
-
-pub unreachable-requires : goal.unreachable-requires
-unreachable-requires c = c.requires (first_none c.args.cursor.now (sym c.first.ensures ∙ c.in-None.is))

@@ -1,6 +1,0 @@
-use Rattle.sc_lexer.specs.declared.token.TokenKind.TheVariants as k
-use Rattle.sc_data_parse.proofs.Taken.{kind_read}
-use Rattle.sc_data_parse.proofs.values.Values.written_id.Goals as goal
-
-pub number-requires : goal.number-requires
-number-requires c = kind_read k.Number _ _ _ c.in_ok-token.ensures

@@ -1,2 +1,0 @@
--- The words that the public contracts speak in.
-pub use Rattle.sc_data_parse.specs.Refused.{IsRefusedAs}

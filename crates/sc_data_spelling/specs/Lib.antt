@@ -1,4 +1,0 @@
-pub mod Printable
-pub mod Public
-pub mod Spelled
-pub mod Words

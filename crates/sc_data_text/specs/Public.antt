@@ -1,3 +1,0 @@
--- The words that speak of the texts of databases.
-pub use Rattle.sc_data_text.specs.Texts.{id_text, value_text, slot_text, record_text, table_text, database_text}
-pub use Rattle.sc_data_text.specs.Told.{IsInOrder, TextsTellDatabases}

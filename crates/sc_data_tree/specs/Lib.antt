@@ -1,4 +1,0 @@
-pub mod Grammar
-pub mod Literals
-pub mod Public
-pub mod Texts

@@ -1,6 +1,0 @@
-pub mod Broken
-pub mod Congruent
-pub mod Few
-pub mod Keys
-pub mod Public
-pub mod Settled

@@ -1,9 +1,0 @@
-use Rattle.std.proofs.Common.{◌≡◌, ◌++◌, ◌∷◌, [], map, take}
-use Rattle.sc_encoding.specs.Literals.{is_none, is_true}
-use Rattle.sc_encoding.specs.Said.{clauses_in}
-use Rattle.sc_encoding.proofs.conjunctions.push_each.Given as goal
-
-abbrev pub invariant-loop-fact : goal.invariant-loop-fact
-invariant-loop-fact l =
-    (l.board.names ≡ l.initial.board.names)
-    × (clauses_in l.board ≡ clauses_in l.initial.board ++ map (λ x. is_none l.whole ++ is_true x ∷ []) (take l.fact-index l.facts))

@@ -1,6 +1,0 @@
-use Rattle.std.proofs.Common.{map}
-use Rattle.sc_encoding.proofs.Disjoined.{IsApart}
-use Rattle.sc_encoding.proofs.disjunctions.take_apart.Given as goal
-
-abbrev pub invariant-loop-step : goal.invariant-loop-step
-invariant-loop-step l = IsApart l.source.gates.now (map (λ xs. xs.items) l.source.inputs.now) l.source.below l.initial.board l.initial.parts l.board l.parts

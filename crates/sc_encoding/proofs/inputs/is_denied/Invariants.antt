@@ -1,4 +1,0 @@
-use Rattle.sc_encoding.proofs.inputs.is_denied.Given as goal
-
-abbrev pub invariant-loop-literal : goal.invariant-loop-literal
-invariant-loop-literal l = Unit {0}

@@ -1,9 +1,0 @@
-pub mod Agreeing
-pub mod Gain
-pub mod Meaning
-pub mod Public
-pub mod Run
-pub mod Secure
-pub mod Sound
-pub mod Touched
-pub mod Worked

@@ -1,9 +1,0 @@
-pub mod Adapters
-pub mod Faults
-pub mod Files
-pub mod Folders
-pub mod Outside
-pub mod Public
-pub mod Shelves
-pub mod Sinks
-pub mod Told

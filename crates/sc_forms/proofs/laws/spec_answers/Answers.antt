@@ -1,8 +1,0 @@
-use Rattle.sc_forms.proofs.GrammarAnswers.{spec_answers}
-use Rattle.sc_forms.proofs.laws.spec_answers.Goals as goal
-
-pub returns-clause-tree : goal.returns-clause-tree
-returns-clause-tree c = spec_answers.read
-
-pub returns-clause-means : goal.returns-clause-means
-returns-clause-means c = spec_answers.means

@@ -1,4 +1,0 @@
-pub mod Answers
-pub mod Firsts
-pub mod Public
-pub mod Reading

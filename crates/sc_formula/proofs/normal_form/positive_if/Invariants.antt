@@ -1,4 +1,0 @@
-use Rattle.sc_formula.proofs.normal_form.positive_if.Given as goal
-
-abbrev pub ghost-positive_form : goal.ghost-positive_form
-ghost-positive_form g a = g.node

@@ -1,1 +1,0 @@
--- The words of this crate's public contracts are those of sc_duty, sc_schema and sc_formula.

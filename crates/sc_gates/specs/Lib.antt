@@ -1,4 +1,0 @@
-pub mod Added
-pub mod Clauses
-pub mod Gates
-pub mod Public

@@ -1,2 +1,0 @@
--- The texts of the generator.
-pub use Rattle.sc_gen.specs.Generated.{policy_with, spec_text, script_text, loosened_text}

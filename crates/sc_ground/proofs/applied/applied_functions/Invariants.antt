@@ -1,7 +1,0 @@
-use Rattle.std.proofs.Common.{◌≡◌, take}
-use Rattle.std.specs.List.{flat_map}
-use Rattle.sc_ground.specs.Codes.{code_functions}
-use Rattle.sc_ground.proofs.applied.applied_functions.Given as goal
-
-abbrev pub invariant-loop-part : goal.invariant-loop-part
-invariant-loop-part l = l.functions.items ≡ flat_map (code_functions l.signature l.arena) (take l.part-index l.parts)

@@ -1,7 +1,0 @@
-use Rattle.sc_ground.specs.Codes.{code_names}
-use Rattle.sc_ground.proofs.Standing.{part_listed}
-use Rattle.sc_ground.proofs.chain.list_names.Goals as goal
-
-pub loop-part-preserved : goal.loop-part-preserved
-loop-part-preserved c =
-    part_listed code_names c.args.parts.now c.loop-part.part-index c.part-item.result _ _ _ _ _ _ c.loop-part-test.true c.part-item.is c.loop-part.invariant c.in_ok-list_name_of.ensures

@@ -1,8 +1,0 @@
-use Rattle.std.proofs.Common.{take}
-use Rattle.std.specs.List.{flat_map}
-use Rattle.sc_ground.specs.Codes.{code_names}
-use Rattle.sc_ground.specs.Standing.{AreListed}
-use Rattle.sc_ground.proofs.chain.list_names.Given as goal
-
-abbrev pub invariant-loop-part : goal.invariant-loop-part
-invariant-loop-part l = AreListed (flat_map code_names (take l.part-index l.parts)) l.initial.terms l.terms l.initial.listed.items l.listed.items

@@ -1,6 +1,0 @@
-use Rattle.std.proofs.Common.{take}
-use Rattle.sc_ground.specs.Counting.{AreRaised, count_in, functions_count}
-use Rattle.sc_ground.proofs.counts.raise_by_functions.Given as goal
-
-abbrev pub invariant-loop-h : goal.invariant-loop-h
-invariant-loop-h l = AreRaised (functions_count (count_in l.counts) l.signature (take l.h-index l.functions)) l.initial.next l.next

@@ -1,7 +1,0 @@
-use Rattle.std.proofs.Common.{take}
-use Rattle.sc_terms.specs.Counts.{sum_of}
-use Rattle.sc_ground.specs.Counting.{IsAlike}
-use Rattle.sc_ground.proofs.counts.total.Given as goal
-
-abbrev pub invariant-loop-count : goal.invariant-loop-count
-invariant-loop-count l = IsAlike l.sum (sum_of (take l.count-index l.counts))

@@ -1,7 +1,0 @@
-use Rattle.std.proofs.Common.{take, map}
-use Rattle.sc_terms.specs.GroundTerms.{field}
-use Rattle.sc_ground.specs.Standing.{terms_at, AreListed}
-use Rattle.sc_ground.proofs.listing.list_fields.Given as goal
-
-abbrev pub invariant-loop-t : goal.invariant-loop-t
-invariant-loop-t l = AreListed (map (field l.h) (terms_at l.initial.terms (take l.t-index l.arguments))) l.initial.terms l.terms l.initial.listed.items l.listed.items

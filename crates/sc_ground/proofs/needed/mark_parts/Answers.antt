@@ -1,5 +1,0 @@
-use Rattle.sc_ground.proofs.Codes.{have_at}
-use Rattle.sc_ground.proofs.needed.mark_parts.Goals as goal
-
-pub mark_part-requires : goal.mark_part-requires
-mark_part-requires c = have_at c.args.arena.now c.args.parts.now c.loop-part.part-index c.part-item.result c.requires c.loop-part-test.true c.part-item.is

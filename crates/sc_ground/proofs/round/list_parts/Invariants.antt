@@ -1,8 +1,0 @@
-use Rattle.std.proofs.Common.{take}
-use Rattle.std.specs.List.{flat_map}
-use Rattle.sc_ground.specs.Applying.{code_skolems}
-use Rattle.sc_ground.specs.Standing.{terms_at, AreListed}
-use Rattle.sc_ground.proofs.round.list_parts.Given as goal
-
-abbrev pub invariant-loop-part : goal.invariant-loop-part
-invariant-loop-part l = AreListed (flat_map (code_skolems l.signature (terms_at l.initial.terms l.current)) (take l.part-index l.parts)) l.initial.terms l.terms l.initial.listed.items l.listed.items

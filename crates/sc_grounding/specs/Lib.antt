@@ -1,4 +1,0 @@
-pub mod GroundClauses
-pub mod InputFacts
-pub mod Public
-pub mod Says

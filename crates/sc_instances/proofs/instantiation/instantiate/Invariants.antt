@@ -1,7 +1,0 @@
-use Rattle.sc_formula.specs.Nodes.{formula_of}
-use Rattle.sc_ground.specs.TermLists.{terms_in}
-use Rattle.sc_instances.specs.Made.{IsWorkFor}
-use Rattle.sc_instances.proofs.instantiation.instantiate.Given as goal
-
-abbrev pub invariant-steps : goal.invariant-steps
-invariant-steps l = IsWorkFor l.signature l.arena l.source.shapes.now l.source.listed.now (terms_in l.fn.terms) (formula_of l.arena l.id) l.root l.work

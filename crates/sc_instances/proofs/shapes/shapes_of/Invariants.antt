@@ -1,6 +1,0 @@
-use Rattle.std.proofs.Common.{◌≡◌, length}
-use Rattle.sc_instances.specs.Shapes.{AreShapes}
-use Rattle.sc_instances.proofs.shapes.shapes_of.Given as goal
-
-abbrev pub invariant-loop-at : goal.invariant-loop-at
-invariant-loop-at l = (length l.shapes.items ≡ l.at) × AreShapes l.arena l.shapes.items

@@ -1,4 +1,0 @@
--- The words of this crate's public contracts; the others are those of sc_gates, sc_terms and sc_formula.
-pub use Rattle.sc_instances.specs.GroundAtoms.{GroundValue, named, number, text, applied_to, ground_value, GroundAtom, equal_values, less_value, related, flagged, present_at, holds_at}
-pub use Rattle.sc_instances.specs.Inputs.{literal_of, value_at, input_value, AreInputsOf}
-pub use Rattle.sc_instances.specs.Made.{AreInstancesOf}

@@ -1,6 +1,0 @@
-use Rattle.std.proofs.Common.{◌≡◌, ◌+◌, drop}
-use Rattle.sc_lexer.specs.Gap.{gap_from, gap_len}
-use Rattle.sc_lexer.proofs.gap.gap_end.Given as goal
-
-abbrev pub invariant-loop-at : goal.invariant-loop-at
-invariant-loop-at l = l.at + gap_from l.in_comment (drop l.at l.text) ≡ gap_len l.text

@@ -1,5 +1,0 @@
-use Rattle.sc_lexer.proofs.TokenLists.{one_list}
-use Rattle.sc_lexer.proofs.laws.one_token_list.Goals as goal
-
-pub returns : goal.returns
-returns c = one_list

@@ -1,5 +1,0 @@
-use Rattle.sc_lexer.proofs.TokenLists.{each_lexeme}
-use Rattle.sc_lexer.proofs.laws.tokens_are_lexemes.Goals as goal
-
-pub returns : goal.returns
-returns c = each_lexeme

@@ -1,6 +1,0 @@
-use Rattle.std.proofs.Common.{◌≡◌, take}
-use Rattle.sc_models.specs.Columns.{tellers_at}
-use Rattle.sc_models.proofs.tellers.tellers_at.Given as goal
-
-abbrev pub invariant-loop-id : goal.invariant-loop-id
-invariant-loop-id l = l.tellers.items ≡ tellers_at l.found.values l.h l.terms (take l.id-index l.told)

@@ -1,7 +1,0 @@
-use Rattle.std.proofs.Common.{◌≡◌, map, take}
-use Rattle.sc_schema.specs.SchemaViews.{model_info_of}
-use Rattle.sc_schema.specs.Proper.{model_numbers as numbers_in}
-use Rattle.sc_numbering.proofs.numbering.model_numbers.Given as goal
-
-abbrev pub invariant-loop-model : goal.invariant-loop-model
-invariant-loop-model l = l.numbers.items ≡ numbers_in (map model_info_of (take l.model-index l.models))

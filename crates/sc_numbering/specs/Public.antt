@@ -1,3 +1,0 @@
--- The words of this crate's public contracts; the others are those of sc_duty.
-pub use Rattle.sc_numbering.specs.Numbers.{spot_of, Numbers, numbers_of, sort_number, function_number, relation_number}
-pub use Rattle.sc_numbering.specs.Signatures.{TypesAreThere, StartTypesAreThere}

@@ -1,8 +1,0 @@
-use Rattle.std.proofs.Common.{◌≡◌, map, drop}
-use Rattle.sc_schema.specs.SchemaViews.{command_of}
-use Rattle.sc_schema.specs.Kinds as rule
-use Rattle.sc_obligations.proofs.principals.is_dropped.Given as goal
-
-abbrev pub invariant-loop-command : goal.invariant-loop-command
-invariant-loop-command l =
-    rule.is_dropped l.kind (map command_of (drop l.command-index l.commands)) ≡ rule.is_dropped l.kind (map command_of l.commands)

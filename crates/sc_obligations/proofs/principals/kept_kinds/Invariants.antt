@@ -1,7 +1,0 @@
-use Rattle.std.proofs.Common.{◌≡◌, map, take}
-use Rattle.sc_schema.specs.SchemaViews.{command_of}
-use Rattle.sc_obligations.specs.Kinds.{kept_by}
-use Rattle.sc_obligations.proofs.principals.kept_kinds.Given as goal
-
-abbrev pub invariant-loop-kind : goal.invariant-loop-kind
-invariant-loop-kind l = l.kept.items ≡ kept_by (map command_of l.commands) (take l.kind-index l.kinds)

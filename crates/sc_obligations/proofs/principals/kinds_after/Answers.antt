@@ -1,8 +1,0 @@
-use Rattle.std.proofs.Common.{◌≡◌, ◌∙◌, ap, length, take, refl}
-use Rattle.sc_obligations.proofs.KindLaws.{kinds-after}
-use Rattle.sc_obligations.proofs.principals.kinds_after.Goals as goal
-
-pub returns : goal.returns
-returns c =
-    kinds-after c.args.t.now c.args.k c.in_ok-kept.kept.items c.args.all.now _
-    (ap (λ xs. take c.args.k xs) c.as_slice-commands.ensures) c.in_ok-kept.ensures c.requires.all

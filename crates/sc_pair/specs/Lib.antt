@@ -1,4 +1,0 @@
-pub mod Pair
-pub mod PairSides
-pub mod PairLaw
-pub mod Public

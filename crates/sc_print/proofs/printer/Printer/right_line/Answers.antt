@@ -1,7 +1,0 @@
-use Rattle.std.proofs.Common.{append_assoc}
-use Rattle.sc_print.proofs.Joined.{text-append}
-use Rattle.sc_print.proofs.printer.Printer.right_line.Goals as goal
-
-pub returns : goal.returns
-returns c =
-    simp (c.in_ok-put.ensures, c.in_ok-right.ensures, c.in_ok-put-2.ensures, text-append, append_assoc)

@@ -1,5 +1,0 @@
-pub mod Commands
-pub mod Exprs
-pub mod Marks
-pub mod Models
-pub mod Public

@@ -1,3 +1,0 @@
-pub mod LitBuf
-pub mod Models
-pub mod Public

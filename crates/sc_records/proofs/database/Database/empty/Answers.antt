@@ -1,8 +1,0 @@
-use Rattle.std.proofs.Common.{map, sym, subst}
-use Rattle.sc_schema.specs.SchemaViews.{model_info_of}
-use Rattle.sc_records.specs.Kept.{IsKept}
-use Rattle.sc_records.proofs.Tables.{empty-kept}
-use Rattle.sc_records.proofs.database.Database.empty.Goals as goal
-
-pub invariant_of-result : goal.invariant_of-result
-invariant_of-result c = subst (IsKept 0 0) (sym c.in_ok-tables.ensures) (empty-kept (map model_info_of c.as_slice.result.now))

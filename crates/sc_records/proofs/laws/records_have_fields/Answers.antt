@@ -1,5 +1,0 @@
-use Rattle.sc_records.proofs.FieldSet.{fields-there}
-use Rattle.sc_records.proofs.laws.records_have_fields.Goals as goal
-
-pub returns : goal.returns
-returns c = fields-there

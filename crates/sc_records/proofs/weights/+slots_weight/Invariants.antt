@@ -1,5 +1,0 @@
-use Rattle.std.proofs.Common.{length}
-use Rattle.sc_records.proofs.weights.+slots_weight.Given as goal
-
-abbrev pub decreases-slots_weight : goal.decreases-slots_weight
-decreases-slots_weight l = length l.slots.now

@@ -1,4 +1,0 @@
-pub mod Places
-pub mod Lookup
-pub mod Means
-pub mod Moved

@@ -1,4 +1,0 @@
-pub mod Anew
-pub mod Laws
-pub mod Policies
-pub mod Public

@@ -1,3 +1,0 @@
-pub mod Public
-pub mod Reading
-pub mod Laws

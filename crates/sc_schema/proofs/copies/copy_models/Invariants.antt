@@ -1,6 +1,0 @@
-use Rattle.std.proofs.Common.{◌≡◌, map, take}
-use Rattle.sc_schema.specs.SchemaViews.{model_info_of}
-use Rattle.sc_schema.proofs.copies.copy_models.Given as goal
-
-abbrev pub invariant-loop-model : goal.invariant-loop-model
-invariant-loop-model l = map model_info_of l.copies.items ≡ map model_info_of (take l.model-index l.models)

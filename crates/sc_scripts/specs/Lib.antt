@@ -1,4 +1,0 @@
-pub mod Counted
-pub mod Counting
-pub mod Public
-pub mod Running

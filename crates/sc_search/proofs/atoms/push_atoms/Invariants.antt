@@ -1,7 +1,0 @@
-use Rattle.std.proofs.Common.{take}
-use Rattle.sc_search.specs.Encoding.{AddsAtoms}
-use Rattle.sc_search.proofs.atoms.push_atoms.Given as goal
-
-abbrev pub invariant-loop-fact : goal.invariant-loop-fact
-invariant-loop-fact l =
-    AddsAtoms l.reader.signature.now l.reader.arena.now l.reader.terms.now l.reader.words.now l.reader.texts.now (take l.fact-index l.facts) l.initial.atoms l.atoms

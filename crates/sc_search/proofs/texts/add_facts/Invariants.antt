@@ -1,5 +1,0 @@
-use Rattle.sc_search.specs.Texts.{KeepsOnce}
-use Rattle.sc_search.proofs.texts.add_facts.Given as goal
-
-abbrev pub invariant-loop-fact : goal.invariant-loop-fact
-invariant-loop-fact l = KeepsOnce l.initial.texts.items l.texts.items

@@ -1,6 +1,0 @@
-use Rattle.std.proofs.Common.{◌≡◌, ℕ, ◌<◌, List, Some, slice_get}
-use Rattle.sc_ast.specs.Words.{IsText}
-use Rattle.sc_search.proofs.texts.see_texts.Given as goal
-
-abbrev pub invariant-loop-text : goal.invariant-loop-text
-invariant-loop-text l = (k : ℕ) (t : List ℕ) → k < l.text-index → slice_get l.texts k ≡ Some t → IsText t

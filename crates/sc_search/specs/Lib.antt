@@ -1,6 +1,0 @@
-pub mod Encoding
-pub mod Halving
-pub mod Problem
-pub mod Public
-pub mod Tabled
-pub mod Texts

@@ -1,5 +1,0 @@
-pub mod Asked
-pub mod Public
-pub mod Small
-pub mod Typed
-pub mod Worked

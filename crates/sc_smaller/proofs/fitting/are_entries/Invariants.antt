@@ -1,7 +1,0 @@
-use Rattle.std.proofs.Common.{ℕ, ◌<◌, Option, get_or}
-use Rattle.sc_formula.specs.declared.structure.SVal.{SVal}
-use Rattle.sc_terms.specs.Structures.{IsEntryOf}
-use Rattle.sc_smaller.proofs.fitting.are_entries.Given as goal
-
-abbrev pub invariant-loop-entry : goal.invariant-loop-entry
-invariant-loop-entry l = (k : ℕ) (d : Option SVal) → k < l.entry-index → IsEntryOf l.structure l.sig (get_or l.table k d)

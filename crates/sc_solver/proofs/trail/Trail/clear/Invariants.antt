@@ -1,8 +1,0 @@
-use Rattle.std.proofs.Common.{◌≡◌, length}
-use Rattle.sc_solver.proofs.trail.Trail.clear.Given as goal
-
-abbrev pub invariant-loop : goal.invariant-loop
-invariant-loop l = l.self.vars ≡ l.initial.self.vars
-
-abbrev pub decreases-loop : goal.decreases-loop
-decreases-loop l = length l.self.entries

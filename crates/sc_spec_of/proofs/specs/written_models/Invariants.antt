@@ -1,8 +1,0 @@
-use Rattle.std.proofs.Common.{◌≡◌, map, take}
-use Rattle.sc_schema.specs.SchemaViews.{model_info_of, schema_of}
-use Rattle.sc_written.specs.Names.{names_in}
-use Rattle.sc_written.specs.Specs.{written_model}
-use Rattle.sc_spec_of.proofs.specs.written_models.Given as goal
-
-abbrev pub invariant-loop-info : goal.invariant-loop-info
-invariant-loop-info l = l.all.items ≡ map (written_model (names_in (schema_of l.s))) (map model_info_of (take l.info-index l.models))

@@ -1,8 +1,0 @@
-use Rattle.std.proofs.Common.{◌≡◌, drop}
-use Rattle.sc_typing.specs.Names.{plain_of}
-use Rattle.sc_specs.specs.InTurn.{in_turn}
-use Rattle.sc_specs.specs.Models.{with_names}
-use Rattle.sc_specs.proofs.models.all_named.Given as goal
-
-abbrev pub invariant-loop-d : goal.invariant-loop-d
-invariant-loop-d l = in_turn with_names (plain_of l.schema) l.defs ≡ in_turn with_names (plain_of l.named) (drop l.d-index l.defs)

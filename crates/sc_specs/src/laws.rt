@@ -1,9 +1,0 @@
-//! Laws over the definitions alone. Each is the contract of a function that does nothing.
-
-ghost use Rattle.sc_specs.specs.Worked.{WorkedSpecs};
-
-/// Worked specifications and faults, which show what they give and which fault is the first.
-#[tactic(auto, using(crate::proofs::WorkedSpecs::worked))]
-pub fn worked_specs()
-    ensures { WorkedSpecs }
-{}

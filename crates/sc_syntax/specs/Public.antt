@@ -1,3 +1,0 @@
--- The words that the public contracts speak in.
-pub use Rattle.sc_syntax.specs.Reads.{Reads, cause_of, reading}
-pub use Rattle.sc_syntax.specs.Pieces.{AreTokensIn, IsTokenIn}

@@ -1,5 +1,0 @@
-use Rattle.sc_terms.proofs.Examples.{not_read}
-use Rattle.sc_terms.proofs.laws.examples_are_counted.Goals as goal
-
-pub returns-clause-five_not_read : goal.returns-clause-five_not_read
-returns-clause-five_not_read c = not_read

@@ -1,6 +1,0 @@
-use Rattle.std.proofs.Common.{sym}
-use Rattle.sc_syntax.proofs.LiteralValues.{literal_is}
-use Rattle.sc_texts.proofs.laws.literals_have_their_value.Goals as goal
-
-pub returns : goal.returns
-returns c bytes value is = sym (literal_is bytes value is)

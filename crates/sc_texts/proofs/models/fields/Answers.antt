@@ -1,7 +1,0 @@
-use Rattle.std.proofs.Common.{sym, subst}
-use Rattle.sc_syntax.specs.Reads.{Reads}
-use Rattle.sc_texts.proofs.FieldLists.{fields_are}
-use Rattle.sc_texts.proofs.models.fields.Goals as goal
-
-pub returns : goal.returns
-returns c = subst (λ z. Reads z c.fields_within.result c.fields_within.new.cursor) (sym (fields_are c.args.cursor.now)) c.fields_within.ensures

@@ -1,5 +1,0 @@
-use Rattle.sc_texts.proofs.JudgedTexts.{judged}
-use Rattle.sc_texts.proofs.texts.judged.Goals as goal
-
-pub returns-in-Err : goal.returns-in-Err
-returns-in-Err g c = λ answer was. judged answer c.args.count _ c.args.cursor.now (rw c.in-Err.is at was) _ c.refusal.ensures

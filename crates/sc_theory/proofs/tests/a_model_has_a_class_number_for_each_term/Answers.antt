@@ -1,7 +1,0 @@
-use Rattle.std.proofs.Common.{ap}
-use Rattle.sc_equality.specs.Equality.{Equalities}
-use Rattle.sc_equality.proofs.EqualityState.{HasModel-empty}
-use Rattle.sc_theory.proofs.tests.a_model_has_a_class_number_for_each_term.Goals as goal
-
-pub assert-requires-clause-has_model : goal.assert-requires-clause-has_model
-assert-requires-clause-has_model g c = HasModel-empty c.in_ok-equality.equality (ap (λ (e : Equalities). e.literals) c.in_ok-equality.ensures)

@@ -1,9 +1,0 @@
-pub mod Asked
-pub mod Compared
-pub mod Exprs
-pub mod Names
-pub mod Outcome
-pub mod Policies
-pub mod Public
-pub mod WellTyped
-pub mod Worked

@@ -1,6 +1,0 @@
-pub mod Agree
-pub mod FailsBy
-pub mod Outcomes
-pub mod Picked
-pub mod Public
-pub mod Sound

@@ -1,5 +1,0 @@
-pub mod CheckLaws
-pub mod Decided
-pub mod FieldLaws
-pub mod SpokenLaws
-pub mod TellingLaws

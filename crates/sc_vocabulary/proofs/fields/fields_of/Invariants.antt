@@ -1,6 +1,0 @@
-use Rattle.std.proofs.Common.{take}
-use Rattle.sc_vocabulary.specs.Inputs.{AddsFields}
-use Rattle.sc_vocabulary.proofs.fields.fields_of.Given as goal
-
-abbrev pub invariant-loop-input : goal.invariant-loop-input
-invariant-loop-input l = AddsFields l.initial.terms l.terms (take l.input-index l.inputs) l.fields.items

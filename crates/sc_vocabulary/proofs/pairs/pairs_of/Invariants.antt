@@ -1,7 +1,0 @@
-use Rattle.std.proofs.Common.{◌≡◌, take}
-use Rattle.std.specs.List.{flat_map}
-use Rattle.sc_vocabulary.specs.Inputs.{pairs_in}
-use Rattle.sc_vocabulary.proofs.pairs.pairs_of.Given as goal
-
-abbrev pub invariant-loop-input : goal.invariant-loop-input
-invariant-loop-input l = l.pairs.items ≡ flat_map pairs_in (take l.input-index l.inputs)

@@ -1,6 +1,0 @@
-use Rattle.std.proofs.Common.{◌≡◌, ℕ, true, Some, take, Contains}
-use Rattle.std.specs.Prelude.{slice_get}
-use Rattle.sc_vocabulary.proofs.spoken.marks_of.Given as goal
-
-abbrev pub invariant-loop-id : goal.invariant-loop-id
-invariant-loop-id l = (id : ℕ) → slice_get l.marks.items id ≡ Some true → Contains (take l.id-index l.listed) id

@@ -1,8 +1,0 @@
-use Rattle.std.proofs.Common.{◌≡◌, length}
-use Rattle.sc_ground.specs.Standing.{terms_at}
-use Rattle.sc_vocabulary.specs.Telling.{IsTelling}
-use Rattle.sc_vocabulary.proofs.telling.tell.Given as goal
-
-abbrev pub invariant-loop-id : goal.invariant-loop-id
-invariant-loop-id l =
-    IsTelling l.source.signature.now l.source.variables.now (terms_at l.source.terms.now l.source.listed.now) l.source.closed l.source.terms.now l.telling × (l.id ≡ length l.telling.standings.items)

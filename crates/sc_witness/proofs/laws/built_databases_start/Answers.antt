@@ -1,5 +1,0 @@
-use Rattle.sc_witness.proofs.Databases.{start}
-use Rattle.sc_witness.proofs.laws.built_databases_start.Goals as goal
-
-pub returns : goal.returns
-returns c = start

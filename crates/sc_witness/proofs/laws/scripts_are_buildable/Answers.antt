@@ -1,5 +1,0 @@
-use Rattle.sc_witness.proofs.Scripts.{buildable}
-use Rattle.sc_witness.proofs.laws.scripts_are_buildable.Goals as goal
-
-pub returns : goal.returns
-returns c = buildable

@@ -1,5 +1,0 @@
-use Rattle.sc_witness.proofs.Structures.{come-back}
-use Rattle.sc_witness.proofs.laws.structures_come_back.Goals as goal
-
-pub returns : goal.returns
-returns c = come-back

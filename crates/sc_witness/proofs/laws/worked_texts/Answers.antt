@@ -1,5 +1,0 @@
-use Rattle.sc_witness.proofs.WorkedTexts.{texts}
-use Rattle.sc_witness.proofs.laws.worked_texts.Goals as goal
-
-pub returns : goal.returns
-returns c = texts

@@ -1,5 +1,0 @@
-use Rattle.std.proofs.Common.{length}
-use Rattle.sc_witness_back.proofs.named.+model_of_name.Given as goal
-
-abbrev pub decreases-model_of_name : goal.decreases-model_of_name
-decreases-model_of_name l = length l.models.now

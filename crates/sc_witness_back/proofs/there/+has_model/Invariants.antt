@@ -1,5 +1,0 @@
-use Rattle.std.proofs.Common.{length}
-use Rattle.sc_witness_back.proofs.there.+has_model.Given as goal
-
-abbrev pub decreases-has_model : goal.decreases-has_model
-decreases-has_model l = length l.models.now

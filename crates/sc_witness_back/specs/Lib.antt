@@ -1,4 +1,0 @@
-pub mod Back
-pub mod Printed
-pub mod Public
-pub mod Scripts

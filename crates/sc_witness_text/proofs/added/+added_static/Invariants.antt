@@ -1,5 +1,0 @@
-use Rattle.std.proofs.Common.{length}
-use Rattle.sc_witness_text.proofs.added.+added_static.Given as goal
-
-abbrev pub decreases-added_static : goal.decreases-added_static
-decreases-added_static l = length l.commands.now

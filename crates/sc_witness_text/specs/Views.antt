@@ -1,7 +1,0 @@
--- The plain data that a witness of the code stands for.
-use Rattle.sc_witness_text.specs.declared.witness.Witness as code_witness
-use Rattle.sc_witness.specs.Witness.{Witness}
-
-abbrev pub witness_data : code_witness.Witness → Witness
-witness_data w =
-    record { command = w.command; target = w.target; right = w.right; base = w.base; row = w.row; who = w.who; cell = w.cell }

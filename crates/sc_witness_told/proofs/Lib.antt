@@ -1,4 +1,0 @@
-pub mod InOrder
-pub mod Marks
-pub mod Numbered
-pub mod WitnessCuts

@@ -1,9 +1,0 @@
-use Rattle.std.proofs.Common.{refl, ap}
-use Rattle.sc_formula.specs.Trees.{has}
-use Rattle.sc_writer.proofs.Putting.{two_put, atom_put, ap2}
-use Rattle.sc_writer.proofs.nodes.put_has.Goals as goal
-
-pub returns : goal.returns
-returns c =
-    let both = two_put _ _ _ _ _ _ _ c.in_ok-t.ensures c.in_ok-u.ensures in
-    atom_put _ _ _ _ _ _ _ _ _ both.2 (ap2 (has c.args.relation) both.0 both.1) refl c.in_ok-id.ensures.made c.signed.ensures

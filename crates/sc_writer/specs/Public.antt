@@ -1,3 +1,0 @@
--- The words of this crate's public contracts.
-pub use Rattle.sc_writer.specs.Made.{Keeps, IsCause, Stands, IsPart, IsMade, MakesFor, Makes}
-pub use Rattle.sc_writer.specs.Terms.{term_data}

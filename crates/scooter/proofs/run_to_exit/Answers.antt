@@ -1,4 +1,0 @@
-use Rattle.scooter.proofs.run_to_exit.Goals as goal
-
-pub returns : goal.returns
-returns g c = (c.run.result, c.from.ensures, c.run.ensures.ends)

@@ -1,0 +1,7 @@
+use Rattle.std.proofs.Common.{◌≡◌, ◌-◌, length, take}
+use Rattle.solve_equality.proofs.equality.EqualityTheory.undo.Given as goal
+
+-- as many literals are taken back as the loop has turned
+abbrev pub invariant-loop-taken : goal.invariant-loop-taken
+invariant-loop-taken l =
+    l.self ≡ record l.initial.self { literals = take (length l.initial.self.literals - l._taken) l.initial.self.literals }

@@ -1,0 +1,12 @@
+use Rattle.std.proofs.Common.{◌≡◌, length}
+use Rattle.solve_solver.specs.ContextView.{SameProblem}
+use Rattle.solve_solver.proofs.learner.Learner.restart.Given as goal
+
+abbrev pub invariant-loop : goal.invariant-loop
+invariant-loop g l = let T = g.T.Theory in record {
+  problem : SameProblem T.capacity T.takes T.models l.initial.self.state l.self.state;
+  kept : l.self ≡ record l.initial.self { state = l.self.state };
+}
+
+abbrev pub decreases-loop : goal.decreases-loop
+decreases-loop g l = length l.self.state.entries

@@ -1,0 +1,6 @@
+pub mod Distinct
+pub mod Models
+pub mod PairModels
+pub mod PairState
+pub mod Sides
+pub mod Undo

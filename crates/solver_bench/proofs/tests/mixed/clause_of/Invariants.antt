@@ -1,5 +1,0 @@
-use Rattle.sc_solver.specs.Clauses.{IsWithin}
-use Rattle.solver_bench.proofs.tests.mixed.clause_of.Given as goal
-
-abbrev pub invariant-loop-number : goal.invariant-loop-number
-invariant-loop-number g l = IsWithin l.vars l.clause.items

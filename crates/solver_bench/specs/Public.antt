@@ -1,4 +1,0 @@
--- The words that speak of formulas and of the numbers that spell them.
-pub use Rattle.solver_bench.specs.Formula.{IsFormula}
-pub use Rattle.solver_bench.specs.Causes.{IsCause}
-pub use Rattle.solver_bench.specs.Spelling.{spelled}

@@ -1,0 +1,50 @@
+-- For which cause, and at which place, a list of pieces is refused: the first cause that stands in it.
+use Rattle.std.specs.Prelude.{◌≡◌, ◌<◌, ◌⊎◌, ℕ, List, [], ◌∷◌, ◌++◌, length}
+use Rattle.text_ast.specs.Pieces.{Piece}
+use Rattle.text_tree.specs.Forms.{Cause, NotGrammar, TooDeep, TooManyTokens, TooManyStatics, TooManyModels, TooManyFields, TooManyCommands}
+use Rattle.text_tree.specs.ExprGrammar.{G}
+use Rattle.text_tree.specs.Texts.{IsSpelledAt, IsBegun}
+use Rattle.text_grammar.specs.Answers.{IsOver}
+
+-- The pieces before the rest begin the form, without limits, and those with the next do not; or they are all pieces, and
+-- spell nothing.
+pub record IsEnd {A : Type 0} (f : G A) (ls rest : List Piece) : Type 0 where
+  pub front : List Piece
+  pub glued : ls ≡ front ++ rest
+  pub begun : IsBegun f front
+  pub ends : rest ≡ [] → (n : ℕ) (x : A) → ¬ (IsSpelledAt n f x front)
+  pub next : (l : Piece) (more : List Piece) → rest ≡ l ∷ more → ¬ (IsBegun f (front ++ l ∷ []))
+
+-- The next piece breaks the limit of the cause; what stands before it may begin at any number of levels.
+abbrev pub IsLimitAt : {A : Type 0} → Cause → G A → List Piece → List Piece → Type 0
+IsLimitAt c f ls rest = (m : ℕ) × IsOver m c f ls rest
+
+-- The cause stands at the first piece of the rest.
+abbrev pub Stands : {A : Type 0} → Cause → G A → List Piece → List Piece → Type 0
+Stands NotGrammar f ls rest = IsEnd f ls rest
+Stands TooDeep f ls rest = IsLimitAt TooDeep f ls rest
+Stands TooManyTokens f ls rest = IsLimitAt TooManyTokens f ls rest
+Stands TooManyStatics f ls rest = IsLimitAt TooManyStatics f ls rest
+Stands TooManyModels f ls rest = IsLimitAt TooManyModels f ls rest
+Stands TooManyFields f ls rest = IsLimitAt TooManyFields f ls rest
+Stands TooManyCommands f ls rest = IsLimitAt TooManyCommands f ls rest
+
+-- the order of the causes that stand at one piece
+abbrev pub number : Cause → ℕ
+number NotGrammar = 5
+number TooDeep = 6
+number TooManyTokens = 7
+number TooManyStatics = 8
+number TooManyModels = 8
+number TooManyFields = 8
+number TooManyCommands = 8
+
+-- One cause stands before another, or at the same piece and with the lower number, or they are the same.
+abbrev pub GoesFirst : Cause → List Piece → Cause → List Piece → Type 0
+GoesFirst c rest d other =
+    (length other < length rest) ⊎ ((rest ≡ other) × ((number c < number d) ⊎ (c ≡ d)))
+
+-- The cause stands there, and goes before every other that stands.
+pub record IsRefused {A : Type 0} (f : G A) (c : Cause) (ls rest : List Piece) : Type 0 where
+  pub stands : Stands c f ls rest
+  pub first : (d : Cause) (other : List Piece) → Stands d f ls other → GoesFirst c rest d other

@@ -1,0 +1,5 @@
+pub mod Answers
+pub mod Causes
+pub mod Firsts
+pub mod Public
+pub mod Reading

@@ -1,0 +1,40 @@
+-- The text of a tree, and why a text has none.
+use Rattle.std.specs.Prelude.{ℕ, List, []}
+use Rattle.text_lexer.specs.declared.token.Token.{Token}
+use Rattle.text_lexer.specs.Lexes.{Lexes}
+use Rattle.text_tree.specs.declared.models.Spec.{Spec}
+use Rattle.text_tree.specs.declared.commands.Script.{Script}
+use Rattle.text_ast.specs.Pieces.{Piece, pieces_of}
+use Rattle.text_tree.specs.Forms.{Want, Spells, Begins, loosened, first}
+use Rattle.text_tree.specs.Levels.{SpellsPart, BeginsPart}
+use Rattle.text_tree.specs.ExprGrammar.{Part, G, rule}
+use Rattle.text_tree.specs.Grammar.{spec_form, script_form, most_levels}
+
+-- the tokens that may come first in an expression and in a set
+abbrev pub first_of : Part → List Want
+first_of p = first (λ q. []) (rule p)
+
+-- within the limits
+abbrev pub IsSpelled : {A : Type 0} → G A → A → List Piece → Type 0
+IsSpelled f x ls = Spells (SpellsPart rule most_levels) f x ls
+
+-- without limits but that of so many levels
+abbrev pub IsSpelledAt : {A : Type 0} → ℕ → G A → A → List Piece → Type 0
+IsSpelledAt n f x ls = Spells (SpellsPart rule n) (loosened f) x ls
+
+abbrev pub IsBegunAt : {A : Type 0} → ℕ → G A → List Piece → Type 0
+IsBegunAt n f ls = Begins (SpellsPart rule n) (BeginsPart rule first_of n) f ls
+
+-- without limits
+abbrev pub IsBegun : {A : Type 0} → G A → List Piece → Type 0
+IsBegun f ls = (n : ℕ) × IsBegunAt n f ls
+
+-- The text has tokens, and they spell the tree.
+abbrev pub IsTextOf : {A : Type 0} → G A → List ℕ → A → Type 0
+IsTextOf f text x = (tokens : List Token) × Lexes text tokens × IsSpelled f x (pieces_of text tokens)
+
+abbrev pub IsSpecText : List ℕ → Spec → Type 0
+IsSpecText = IsTextOf spec_form
+
+abbrev pub IsScriptText : List ℕ → Script → Type 0
+IsScriptText = IsTextOf script_form

@@ -1,0 +1,17 @@
+pub mod Changed
+pub mod Labels
+pub mod Names
+pub mod Policies
+pub mod Public
+pub mod RenumberedAnew
+pub mod RenumberedLaws
+pub mod RetypedAnew
+pub mod RetypedKept
+pub mod RetypedLaws
+pub mod RetypingKept
+pub mod RetypingLaws
+pub mod Room
+pub mod RoundTrip
+pub mod Specs
+pub mod Told
+pub mod Trees

@@ -1,0 +1,14 @@
+pub mod Along
+pub mod Counted
+pub mod InForce
+pub mod Obligations
+pub mod SmallCounted
+pub mod Staying
+pub mod Stepped
+pub mod Typed
+pub mod TypedObligations
+pub mod TypedScript
+pub mod TypedSpec
+pub mod Within
+pub mod WithinSets
+pub mod WorkedRemoved

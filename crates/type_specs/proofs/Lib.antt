@@ -1,0 +1,3 @@
+pub mod Plain
+pub mod Seen
+pub mod WorkedSpecs

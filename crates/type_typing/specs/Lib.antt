@@ -1,0 +1,10 @@
+pub mod Asked
+pub mod Compared
+pub mod Exprs
+pub mod Names
+pub mod Outcome
+pub mod Policies
+pub mod Public
+pub mod Refusals
+pub mod WellTyped
+pub mod Worked
