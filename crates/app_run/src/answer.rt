@@ -24,7 +24,7 @@ pub struct Generated {
     pub commands: u32,
     /// Of the script that tightens the policies of each field.
     pub tightened: Checked,
-    /// Of the script that does the same, but leaves out a filter in its last command.
+    /// Of the script that does the same, but has no filters in one search of its last command.
     pub loosened: Checked,
 }
 

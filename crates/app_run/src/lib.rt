@@ -11,12 +11,12 @@
 //! | `laws` | what holds of all answers, and `run` over objects that never fail |
 //! | `status` | `Status`, how a run ended |
 //! | `answer` | `Answer`, what is found or why the words are refused |
-//! | `refusal`, `fault`, `stop` | `Refusal`, and `Stop`, why a stage passes nothing on |
+//! | `refusal`, `fault`, `stop` | `Refusal`, `Fault`, and `Stop`, why a stage passes nothing on |
 //! | `words` | the command that the words are |
 //! | `load` | the files that the words name, and the trees that texts are |
-//! | `limits` | how long a file may be |
+//! | `limits` | how long a file may be, and how many commands `gen` makes |
 //! | `texts` | `check_texts` and its like, over bytes |
-//! | `types`, `users` | the trees with their types |
+//! | `types`, `users` | the trees with their types, and who still uses a thing |
 //! | `formulas` | the formulas of obligations, for the check |
 //! | `check`, `generated` | the stages of the commands |
 //! | `report`, `pieces` | the texts that are printed |

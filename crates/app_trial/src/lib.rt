@@ -1,5 +1,5 @@
 //! The program tried on words and files, for tests: `run` without its clauses, so that what calls
-//! it is proved in a moment. Nothing is promised here but what `run` promises.
+//! it is proved in a moment. Nothing is promised here.
 //!
 //! | module | holds |
 //! |---|---|

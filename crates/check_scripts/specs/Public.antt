@@ -1,4 +1,3 @@
--- The words that speak of checked scripts.
 -- The words that speak of verdicts on scripts.
 pub use Rattle.check_scripts.specs.Views.{outcome_data}
 pub use Rattle.check_scripts.specs.FailsBy.{IsGainOf, IsLeakOf, FailsBy}

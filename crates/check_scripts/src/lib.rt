@@ -17,6 +17,7 @@
 //! | `specs/Outcomes.antt` | cleared obligations, and the outcomes of a script |
 //! | `specs/Sound.antt` | what the outcomes say of the script |
 //! | `specs/Agree.antt` | that all outcomes say the same of how it stands |
+//! | `specs/Safe.antt`, `specs/Views.antt` | formulas that are safe; the plain data of outcomes |
 #![tactic(auto)]
 
 mod formulas;

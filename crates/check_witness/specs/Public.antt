@@ -1,4 +1,3 @@
--- The words that speak of the database of a structure.
 -- The words that speak of databases of structures.
 pub use Rattle.check_witness.specs.Built.{built, value_at, built_value, built_record, built_table}
 pub use Rattle.check_witness.specs.Back.{IsBuildable, IsRising, HasIds, StructuresComeBack, BuiltDatabasesTellTheTruth, BuiltDatabasesStart, ScriptsAreBuildable}

@@ -1,5 +1,4 @@
--- The words that speak of databases.
--- The words that speak of what scripts mean on databases.
+-- The words that speak of databases, and of what scripts mean on them.
 pub use Rattle.data_meaning.specs.Values.{Value, IsValueOf}
 pub use Rattle.data_meaning.specs.Database.{Slot, Record, Table, Database, ids_of, has_record, field_at, is_there, IsIntact, IsDatabase, HasNoFurtherTables, IsInOrder}
 pub use Rattle.data_meaning.specs.FieldsTyped.{FieldsAreTyped}

@@ -1,5 +1,4 @@
 -- The words that speak of databases that are read from texts.
--- The words that the public laws speak in.
 pub use Rattle.data_read.specs.Reading.{IsRead, IsRefusedAs}
 pub use Rattle.data_read.specs.Words.{IsModelName, IsFieldName, HasWordsIn, HasWords}
 pub use Rattle.data_read.specs.Printable.{IsPrintable}

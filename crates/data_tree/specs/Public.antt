@@ -1,4 +1,3 @@
--- The words that the public laws speak in.
 -- The words that speak of the trees of databases' texts.
 pub use Rattle.data_tree.specs.Answers.{answer, IsNotGrammar, IsOver, Means}
 pub use Rattle.data_tree.specs.Causes.{Stands, IsRefused}

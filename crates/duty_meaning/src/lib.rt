@@ -21,6 +21,7 @@
 //! | `specs/Shapes.antt` | that structures of start databases are structures over the signature |
 //! | `specs/Failing.antt` | scripts none of whose obligations fails |
 //! | `specs/Truths.antt` | the formulas of conditions and policies tell what they mean |
+//! | `specs/Worked.antt` | worked formulas and sizes |
 #![tactic(auto)]
 
 mod duty;

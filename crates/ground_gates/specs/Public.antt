@@ -1,4 +1,3 @@
--- The words of this crate's public contract, which stand where gates do.
 -- The words of this crate's public contracts, and of those that make clauses of gates.
 pub use Rattle.ground_gates.specs.Clauses.{HaveInputsBelow, IsEncoding, meets_clause, Meets, HasInputBelow, inputs_by}
 pub use Rattle.ground_gates.specs.Added.{IsAdded}

@@ -1,6 +1,4 @@
--- The words of this crate's public contracts; the others are those of ground_gates, ground_problem, ground_problem, form_tables and ground_instances.
--- The words that join instances and tables.
--- The words of this crate's public contracts; the others are those of form_tables, ground_instances, ground_terms and form_formula.
+-- The words of this crate's public contracts; the others are those of ground_gates, ground_instances, ground_terms, form_tables and form_formula.
 pub use Rattle.ground_problem.specs.Facts.{noun_at, fact_at, literal_at, clause_at, clauses_at}
 pub use Rattle.ground_problem.specs.Says.{ground_term, function_at, value_in, says}
 pub use Rattle.ground_problem.specs.InputFacts.{noun_of, atom_facts, input_facts, are_facts}

@@ -1,5 +1,5 @@
-//! What a formula at ground terms asks of a table: its instances, their vocabulary, and the clauses
-//! that say that it holds.
+//! What a formula at ground terms speaks of, and all clauses about it: those of a table, and those
+//! that its gate is true.
 //!
 //! - `laws`: what holds of the instances of any formula and of any table.
 //! - `words`: `Words`, a vocabulary by numbers of ground terms, and `PairNode`.

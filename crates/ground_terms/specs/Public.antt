@@ -1,5 +1,4 @@
 -- The words of this crate's public contracts; the others are those of form_terms and form_formula.
--- The words of this crate's public contracts.
 pub use Rattle.ground_terms.specs.Standing.{terms_at, AreOnes, AreTermsAt}
 pub use Rattle.ground_terms.specs.TermLists.{terms_in}
 pub use Rattle.ground_terms.specs.Limited.{IsRefusal}

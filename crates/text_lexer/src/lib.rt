@@ -1,9 +1,8 @@
 //! The tokens of a text.
 //!
-//! Specifications, migration scripts, databases and requests are written in one set of tokens:
-//! words, numbers, texts in quotes and signs, with blanks and comments between them. [`lex`] cuts a
-//! text into its tokens, and says where each begins and ends; parsers go on from there. The rules
-//! stand in
+//! Specifications, migration scripts and databases are written in one set of tokens: words, numbers,
+//! texts in quotes and signs, with blanks and comments between them. [`lex`] cuts a text into its
+//! tokens, and says where each begins and ends; parsers go on from there. The rules stand in
 //! `specs/`, the relation of a text and its tokens in `specs/Lexes.antt`.
 //!
 //! - `token`: [`Token`], [`TokenKind`], and [`bytes_of`], the bytes of a token.

@@ -1,5 +1,4 @@
 -- The words of this crate's public contracts.
--- The words that the public laws speak in.
 pub use Rattle.text_print.specs.Exprs.{spelled_expr, spelled_set}
 pub use Rattle.text_print.specs.Models.{spelled_policy, spelled_spec}
 pub use Rattle.text_print.specs.Commands.{spelled_script}

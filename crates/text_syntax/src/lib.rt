@@ -1,4 +1,4 @@
-//! Parsers of specifications and migration scripts.
+//! Parsers of expressions, sets and filters.
 //!
 //! A recursive descent over the tokens of a text. Each production is a function that equals the
 //! reader of its form (`specs/Reading.antt` of text_grammar), so that what holds of readers holds of

@@ -1,7 +1,4 @@
--- The words that speak of schemas and databases numbered anew.
--- The words that speak of what typing gives of the tree that a schema is written as.
--- The words that speak of trees of schemas that are typed again.
--- The words that speak of the trees that schemas are written as.
+-- The words that speak of schemas and databases numbered anew, of the trees that schemas are written as, and of what typing gives of these trees.
 pub use Rattle.type_anew.specs.RenumberedAnew.{renumbered_type, AreFieldsAnew, AreModelsAnew, AreStaticsAnew, IsAnew}
 pub use Rattle.type_anew.specs.Policies.{new_static, renumbered_principal, renumbered_expr, renumbered_set, renumbered_policy}
 pub use Rattle.type_anew.specs.RenumberedLaws.{IsMovedTo, DatabasesMove, PoliciesMeanTheSame}

@@ -1,4 +1,5 @@
-//! Tests of the types of specifications, commands and scripts, from trees made by hand.
+//! Tests of the types of specifications, commands and scripts, from texts and from trees that no
+//! text spells.
 #![tactic(auto)]
 
 #[cfg(test)]
