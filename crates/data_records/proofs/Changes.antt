@@ -68,7 +68,7 @@ module _ {d : Database} {m id : ℕ} (at : Located d m id) where
 
 -- ---- tables
 
-tables-changed : (m : ℕ) (g : Table → Table) (d : Database) → change_table m g d ≡ change_first (model_is m) g d
+pub tables-changed : (m : ℕ) (g : Table → Table) (d : Database) → change_table m g d ≡ change_first (model_is m) g d
 tables-changed m g [] = refl
 tables-changed m g (t ∷ d) = ap (λ ts. if t.model == m then g t ∷ d else t ∷ ts) (tables-changed m g d)
 

@@ -5,6 +5,8 @@ pub mod Pushed
 pub mod Summed
 pub mod Firsts
 pub mod KeptAnew
+pub mod Moves
+pub mod MovesKept
 pub mod NewNumbers
 pub mod Changes
 pub mod Places

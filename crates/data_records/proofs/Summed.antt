@@ -9,12 +9,12 @@ use Rattle.data_records.specs.declared.table.Table as code_table
 use Rattle.data_records.specs.Views.{value_data, slot_data, record_data, table_data}
 use Rattle.data_records.specs.Room.{weight_of, record_weight, record_count, total_weight}
 
-sum_by_of_map : {A B : Type 0} (f : B → ℕ) (g : A → B) (xs : List A) → sum_by f (map g xs) ≡ sum_by (λ x. f (g x)) xs
+pub sum_by_of_map : {A B : Type 0} (f : B → ℕ) (g : A → B) (xs : List A) → sum_by f (map g xs) ≡ sum_by (λ x. f (g x)) xs
 sum_by_of_map f g [] = refl
 sum_by_of_map f g (x ∷ xs) =
     sum_by-cons f (g x) (map g xs) ∙ ap (λ n. f (g x) + n) (sum_by_of_map f g xs) ∙ sym (sum_by-cons (λ y. f (g y)) x xs)
 
-same_sums : {A : Type 0} (f g : A → ℕ) → ((x : A) → f x ≡ g x) → (xs : List A) → sum_by f xs ≡ sum_by g xs
+pub same_sums : {A : Type 0} (f g : A → ℕ) → ((x : A) → f x ≡ g x) → (xs : List A) → sum_by f xs ≡ sum_by g xs
 same_sums f g same [] = refl
 same_sums f g same (x ∷ xs) =
     sum_by-cons f x xs ∙ ap (λ n. n + sum_by f xs) (same x) ∙ ap (λ n. g x + n) (same_sums f g same xs) ∙ sym (sum_by-cons g x xs)

@@ -3,6 +3,7 @@ pub mod Codes
 pub mod Inserted
 pub mod Keeping
 pub mod Kept
+pub mod Moved
 pub mod Principals
 pub mod Public
 pub mod Removed
@@ -11,4 +12,5 @@ pub mod Rising
 pub mod Room
 pub mod Rows
 pub mod Shape
+pub mod TakenBack
 pub mod Views

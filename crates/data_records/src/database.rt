@@ -39,6 +39,8 @@ use std::alloc::{AllocError, Global};
 use std::marker::Model;
 use type_schema::{FieldInfo, FieldNo, ModelInfo, ModelNo, Schema};
 
+mod moves;
+
 /// A database: for each model its records by rising id. Contracts see its tables.
 #[derive(Drop)]
 pub struct Database {

@@ -2,12 +2,12 @@
 //!
 //! | module | holds |
 //! |---|---|
-//! | `database` | `Database` |
+//! | `database` | `Database`; in `moves` what adds and drops its models and fields |
 //! | `value` | `Value`, what a field holds |
 //! | `record`, `slots` | `Record`, with a value for each field |
 //! | `data_err` | `DataErr`, why a change is refused |
 //! | `shape`, `rows`, `weights` | which values and rows fit |
-//! | `table` | the records of a model |
+//! | `table`, `columns` | the records of a model |
 //! | `references` | which fields name a record |
 //! | `principals` | principals of a schema |
 //! | `numbers` | the numbers of a schema numbered anew |
@@ -17,6 +17,7 @@
 //! `specs/Views.antt` says which plain data the types stand for.
 #![tactic(auto)]
 
+mod columns;
 mod data_err;
 mod database;
 mod laws;

@@ -1,10 +1,13 @@
 //! Records.
 
-ghost use Rattle.std.specs.Prelude.{◌≡◌, ◌==◌, ◌<◌, ◌^◌, map, option_copied, position, IfOk};
+ghost use Rattle.std.specs.Prelude.{◌≡◌, ◌==◌, ◌<◌, ◌^◌, map, option_copied, position};
+ghost use Rattle.std.specs.Prelude.{IfOk, OnErr, OnOk};
 ghost use Rattle.std.specs.List.{find};
 ghost use Rattle.std.specs.Option.{option_map};
 ghost use Rattle.data_records.specs.Changed.{with_value};
+ghost use Rattle.data_records.specs.Moved.{with_slot, without_slot};
 ghost use Rattle.data_records.specs.Renumbered.{field_count, new_field, record_numbered_by};
+ghost use Rattle.data_records.specs.TakenBack.{without_last_in};
 ghost use Rattle.data_records.specs.Views.{record_data, slot_data, value_data};
 ghost use Rattle.type_schema.specs.SchemaViews.{model_info_of};
 
@@ -72,6 +75,30 @@ impl Record {
             Some(place) => self.slots.set(place, slot),
             None => {}
         }
+    }
+
+    /// Adds a value of one more field.
+    pub(crate) fn push(&mut self, slot: Slot) -> Result<(), AllocError>
+        ensures ok { OnOk result (record_data self.new
+            ≡ with_slot slot.field (value_data slot.value) (record_data self.old)) }
+        ensures err { OnErr result (record_data self.new ≡ record_data self.old) }
+    {
+        self.slots.push(slot)
+    }
+
+    /// Takes out the last value, if there is one.
+    pub(crate) fn take_last(&mut self)
+        ensures { record_data self.new ≡ without_last_in (record_data self.old) }
+    {
+        self.slots.take_last();
+    }
+
+    /// Takes out the values of a field.
+    pub(crate) fn take_field(&mut self, f: FieldNo)
+        ensures { record_data self.new
+            ≡ record (record_data self.old) { slots = without_slot f (record_data self.old) } }
+    {
+        self.slots.take_field(f);
     }
 
     /// Gives each value the new number of its field, which is one of the model.

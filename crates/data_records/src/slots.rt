@@ -1,8 +1,9 @@
 //! The values of a record.
 
-ghost use Rattle.std.specs.Prelude.{◌≡◌, [], ◌∷◌, ◌++◌, ◌<◌, ◌^◌, length, map, slice_set};
-ghost use Rattle.std.specs.Prelude.{IfOk, OnErr, OnOk};
+ghost use Rattle.std.specs.Prelude.{◌≡◌, ◌==◌, [], ◌∷◌, ◌++◌, ◌<◌, ◌^◌, length, map, slice_set};
+ghost use Rattle.std.specs.Prelude.{filter, not, IfOk, OnErr, OnOk};
 ghost use Rattle.data_records.specs.Renumbered.{field_count, new_field, numbered_by};
+ghost use Rattle.data_records.specs.TakenBack.{without_last};
 ghost use Rattle.data_records.specs.Views.{slot_data};
 ghost use Rattle.type_schema.specs.SchemaViews.{model_info_of};
 
@@ -10,7 +11,7 @@ use crate::numbers::new_field;
 use crate::record::Slot;
 use std::alloc::{AllocError, Global};
 use std::marker::Model;
-use type_schema::{ModelInfo, ModelNo};
+use type_schema::{FieldNo, ModelInfo, ModelNo};
 
 /// A value for each field of a record. Contracts see the list of them.
 #[derive(Drop)]
@@ -94,6 +95,20 @@ impl Slots {
     {
         self.items.push(slot)?;
         Ok(())
+    }
+
+    /// Takes out the last value, if there is one.
+    pub(crate) fn take_last(&mut self)
+        ensures { map slot_data self.new ≡ without_last (map slot_data self.old) }
+    {
+        let _taken = self.items.pop();
+    }
+
+    /// Takes out the values of a field.
+    pub(crate) fn take_field(&mut self, f: FieldNo)
+        ensures { self.new ≡ filter (λ slot. not (slot.field == f)) self.old }
+    {
+        self.items.retain(|slot| slot.field != f);
     }
 
     /// Puts a value in place of another.

@@ -1,6 +1,6 @@
 //! How much values weigh.
 
-ghost use Rattle.std.specs.Prelude.{◌≡◌, ◌+◌, ◌^◌, ◌<◌, length, map, IfSome, MatchOption};
+ghost use Rattle.std.specs.Prelude.{◌≡◌, ◌+◌, ◌^◌, ◌<◌, ◌≤◌, length, map, MatchOption};
 ghost use Rattle.data_records.specs.Room.{row_weight, weight_of};
 ghost use Rattle.data_records.specs.Views.{slot_data, value_data};
 ghost use Rattle.std.specs.List.{sum_by};
@@ -75,7 +75,9 @@ pub(crate) fn without_row(left: u64, row: &[Value]) -> Option<u64>
 
 /// What is left of a number without the weights of slots, or None where they weigh more.
 fn without_slots(left: u64, slots: &[Slot]) -> Option<u64>
-    ensures { IfSome result (λ rest. rest
+    ensures { MatchOption result
+        (left < sum_by (λ slot. weight_of (value_data slot.value)) slots.now)
+        (λ rest. rest
         + sum_by (λ slot. weight_of (value_data slot.value)) slots.now ≡ left) }
 {
     let mut left = left;
@@ -87,7 +89,10 @@ fn without_slots(left: u64, slots: &[Slot]) -> Option<u64>
 
 /// What is left of a number without the weights of records, or None where they weigh more.
 fn without_records(left: u64, records: &[Record]) -> Option<u64>
-    ensures { IfSome result (λ rest. rest
+    ensures { MatchOption result
+        (left < sum_by (λ r. sum_by (λ slot. weight_of (value_data slot.value)) r.slots)
+        records.now)
+        (λ rest. rest
         + sum_by (λ r. sum_by (λ slot. weight_of (value_data slot.value)) r.slots) records.now
         ≡ left) }
 {
@@ -100,7 +105,10 @@ fn without_records(left: u64, records: &[Record]) -> Option<u64>
 
 /// What is left of a number without the weights of tables, or None where they weigh more.
 fn without_tables(left: u64, tables: &[Table]) -> Option<u64>
-    ensures { IfSome result (λ rest. rest
+    ensures { MatchOption result
+        (left < sum_by (λ t. sum_by (λ r. sum_by (λ slot. weight_of (value_data slot.value))
+        r.slots) t.records.items) tables.now)
+        (λ rest. rest
         + sum_by (λ t. sum_by (λ r. sum_by (λ slot. weight_of (value_data slot.value)) r.slots)
         t.records.items) tables.now ≡ left) }
 {
@@ -113,7 +121,10 @@ fn without_tables(left: u64, tables: &[Table]) -> Option<u64>
 
 /// How much tables weigh, or None where that is more than a number has.
 pub(crate) fn weight_in(tables: &[Table]) -> Option<u64>
-    ensures { IfSome result (λ weight. weight
+    ensures { MatchOption result
+        (2 ^ 64 ≤ sum_by (λ t. sum_by (λ r. sum_by (λ slot. weight_of (value_data slot.value))
+        r.slots) t.records.items) tables.now)
+        (λ weight. weight
         ≡ sum_by (λ t. sum_by (λ r. sum_by (λ slot. weight_of (value_data slot.value)) r.slots)
         t.records.items) tables.now) }
 {
@@ -121,9 +132,23 @@ pub(crate) fn weight_in(tables: &[Table]) -> Option<u64>
     Some(u64::MAX - left)
 }
 
+/// A weight with that of these values, or None where that is more than a number has.
+pub(crate) fn weight_with(weight: u64, values: &[Value]) -> Option<u64>
+    ensures { MatchOption result
+        (2 ^ 64 ≤ weight + sum_by (λ v. weight_of (value_data v)) values.now)
+        (λ all. all ≡ weight + sum_by (λ v. weight_of (value_data v)) values.now) }
+{
+    let mut left = u64::MAX - weight;
+    for value in values {
+        left = without_value(left, value)?;
+    }
+    Some(u64::MAX - left)
+}
+
 /// How many records tables have, or None where there are more than a number has.
 pub(crate) fn count_in(tables: &[Table]) -> Option<usize>
-    ensures { IfSome result (λ n. n ≡ sum_by (λ t. length t.records.items) tables.now) }
+    ensures { MatchOption result (2 ^ 64 ≤ sum_by (λ t. length t.records.items) tables.now)
+        (λ n. n ≡ sum_by (λ t. length t.records.items) tables.now) }
 {
     let mut count: usize = 0;
     for table in tables {
