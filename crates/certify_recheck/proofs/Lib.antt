@@ -1,4 +1,5 @@
 pub mod Digits
+pub mod Following
 pub mod Growing
 pub mod Parts
 pub mod Passing
@@ -6,3 +7,4 @@ pub mod Ready
 pub mod Saying
 pub mod Steps
 pub mod TextLines
+pub mod Writing

@@ -22,6 +22,6 @@ mod walk;
 
 pub use checking::recheck;
 pub use fault::RecheckErr;
-pub use laws::parts_are_lawful_trees;
+pub use laws::{parts_are_lawful_trees, parts_follow_one_another, written_lines_are_read_back};
 pub use line::{Line, read_line};
 pub use spot::Spot;
