@@ -1,0 +1,4 @@
+pub mod PathStates
+pub mod Pending
+pub mod Refuting
+pub mod ValuesOn

@@ -1,0 +1,10 @@
+pub mod Digits
+pub mod Following
+pub mod Growing
+pub mod Parts
+pub mod Passing
+pub mod Ready
+pub mod Saying
+pub mod Steps
+pub mod TextLines
+pub mod Writing

@@ -1,0 +1,9 @@
+pub mod Due
+pub mod Following
+pub mod Laws
+pub mod Lines
+pub mod Numbers
+pub mod Public
+pub mod Spots
+pub mod Walking
+pub mod Written
