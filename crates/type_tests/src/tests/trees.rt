@@ -47,12 +47,23 @@ fn sets(alloc: Global) -> Result<Vec<SetExpr>, Fail> {
     Ok(sets)
 }
 
+/// `set.map(x -> u)`
+fn mapped(alloc: Global, set: Boxed<SetExpr>) -> Result<SetExpr, Fail> {
+    let x = Boxed::new(alloc, named(alloc, b"x", 7)?)?;
+    let u = named(alloc, b"u", 8)?;
+    let each = Boxed::new(alloc, Expr::Var(8, u))?;
+    Ok(SetExpr::MapS(AT, set, x, each))
+}
+
+/// `u -> set.map(x -> u)`
+fn policy(alloc: Global, set: Boxed<SetExpr>) -> Result<Policy, Fail> {
+    let u = named(alloc, b"u", 0)?;
+    Ok(Policy::Fun(u, mapped(alloc, set)?))
+}
+
 /// Why `u -> set.map(x -> u)` is no policy of users.
 fn fault(alloc: Global, schema: &Schema, set: SetExpr) -> Result<Option<TypeErr>, Fail> {
-    let x = Boxed::new(alloc, named(alloc, b"x", 7)?)?;
-    let each = Boxed::new(alloc, Expr::Var(8, named(alloc, b"u", 8)?))?;
-    let mapped = SetExpr::MapS(AT, Boxed::new(alloc, set)?, x, each);
-    let policy = Policy::Fun(named(alloc, b"u", 0)?, mapped);
+    let policy = policy(alloc, Boxed::new(alloc, set)?)?;
     Ok(typed_policy(alloc, schema, 0, &policy).err())
 }
 
