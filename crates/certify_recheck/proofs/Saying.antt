@@ -20,6 +20,9 @@ module _ (c : Problem) where
       ∙ filter_map-append (said_by c) (take i path) (get_or path i d ∷ [])
       ∙ ap (λ s. all_said c (take i path) ++ s) (one_said (said_by c (get_or path i d)))
 
+  pub said_push : (path : List Literal) (l : Literal) → all_said c (path ++ l ∷ []) ≡ all_said c path ++ option_to_list (said_by c l)
+  said_push path l = filter_map-append (said_by c) path (l ∷ []) ∙ ap (λ s. all_said c path ++ s) (one_said (said_by c l))
+
   length-cons_option : (o : Option Said) (rest : List Said) (n : ℕ) → length rest ≤ n → length (cons_option o rest) ≤ suc n
   length-cons_option None rest n h = omega arith
   length-cons_option (Some s) rest n h = omega arith

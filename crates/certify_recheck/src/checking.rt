@@ -47,12 +47,12 @@ fn pass<C: Clauses>(
     if !is_duty(read.line, duty) {
         return Err(RecheckErr::BadLine { line: from.line });
     }
-    let mut theory = procedures(alloc, c)?;
+    let mut told = procedures(alloc, c)?;
     let behind = Spot {
         at: read.next,
         line: from.line + 1,
     };
-    walk(alloc, c, &mut theory, text, behind)
+    walk(alloc, c, &mut told, text, behind)
 }
 
 /// Checks one duty's part of a certificate, a line `duty K` and a lawful tree over the duty's

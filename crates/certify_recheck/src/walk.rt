@@ -3,14 +3,14 @@
 ghost use Rattle.std.specs.Prelude.{◌≡◌, ◌+◌, ◌<◌, ◌≤◌, [], ◌∷◌, length, IfErr, IfOk};
 ghost use Rattle.certify_recheck.specs.Due.{tree};
 ghost use Rattle.certify_recheck.specs.Spots.{IsRefusal, Passes};
-ghost use Rattle.certify_recheck.specs.Walking.{IsClosed, IsReady, IsStep};
+ghost use Rattle.certify_recheck.specs.Walking.{IsClosed, IsFront, IsReady, IsStep};
 ghost use Rattle.certify_recheck.specs.declared.line.Line.TheVariants as line;
 
 use crate::fault::RecheckErr;
 use crate::line::Line;
 use crate::reading::read_at;
 use crate::spot::Spot;
-use crate::theories::has_no_model;
+use crate::theories::{Told, has_no_model, take_back};
 use certify_clauses::{Atom, Clauses, Literal, Path};
 use solve_theory::Theory;
 use sqlite_items::Items;
@@ -31,6 +31,7 @@ pub(crate) enum Step {
 fn split<C: Clauses>(c: &C, path: &mut Path, var: u32) -> Result<Step, AllocError>
     requires { path.old.vars ≡ (C.problem c.now).vars }
     ensures vars { path.new.vars ≡ path.old.vars }
+    ensures longer { IsFront path.old.literals path.new.literals }
     ensures step { IfOk result (λ step. IsStep (C.problem c.now) path.old.literals (line.Split var)
         path.new.literals step) }
 {
@@ -47,30 +48,44 @@ fn split<C: Clauses>(c: &C, path: &mut Path, var: u32) -> Result<Step, AllocErro
 }
 
 /// Goes on behind a leaf.
-fn close(path: &mut Path) -> Result<Step, AllocError>
+fn close<C: Clauses, T: Theory<Lit = Atom, Model = (Items<u32>, Items<i64>)>>(
+    c: &C,
+    path: &mut Path,
+    told: &mut Told<T>,
+) -> Result<Step, AllocError>
+    requires ready { IsReady (C.problem c.now) path.old.literals told.old.count
+        (T.literals told.old.theory) (T.capacity told.old.theory) (T.takes told.old.theory)
+        (T.models told.old.theory) T.meets }
+    ensures ready { IsReady (C.problem c.now) path.new.literals told.new.count
+        (T.literals told.new.theory) (T.capacity told.new.theory) (T.takes told.new.theory)
+        (T.models told.new.theory) T.meets }
     ensures vars { path.new.vars ≡ path.old.vars }
     ensures step { IfOk result (IsClosed path.old.literals path.new.literals) }
 {
-    if path.turn()? {
-        Ok(Step::More)
-    } else {
-        Ok(Step::Done)
+    while let Some(last) = take_back(c, path, told) {
+        if last.plus {
+            path.push(last.opposite())?;
+            return Ok(Step::More);
+        }
     }
+    Ok(Step::Done)
 }
 
 /// Goes one line on.
 fn take_line<C: Clauses, T: Theory<Lit = Atom, Model = (Items<u32>, Items<i64>)>>(
     c: &C,
     path: &mut Path,
-    theory: &mut T,
+    told: &mut Told<T>,
     line: Line,
 ) -> Result<Step, AllocError>
     requires vars { path.old.vars ≡ (C.problem c.now).vars }
-    requires ready { IsReady (C.problem c.now) (T.literals theory.old) (T.capacity theory.old)
-        (T.takes theory.old) (T.models theory.old) T.meets }
+    requires ready { IsReady (C.problem c.now) path.old.literals told.old.count
+        (T.literals told.old.theory) (T.capacity told.old.theory) (T.takes told.old.theory)
+        (T.models told.old.theory) T.meets }
     ensures vars { path.new.vars ≡ path.old.vars }
-    ensures ready { IsReady (C.problem c.now) (T.literals theory.new) (T.capacity theory.new)
-        (T.takes theory.new) (T.models theory.new) T.meets }
+    ensures ready { IsReady (C.problem c.now) path.new.literals told.new.count
+        (T.literals told.new.theory) (T.capacity told.new.theory) (T.takes told.new.theory)
+        (T.models told.new.theory) T.meets }
     ensures step { IfOk result (λ step. IsStep (C.problem c.now) path.old.literals line
         path.new.literals step) }
 {
@@ -78,14 +93,14 @@ fn take_line<C: Clauses, T: Theory<Lit = Atom, Model = (Items<u32>, Items<i64>)>
         Line::Split(var) => split(c, path, var),
         Line::Clause(number) => {
             if c.is_false(number, path)? {
-                close(path)
+                close(c, path, told)
             } else {
                 Ok(Step::Bad)
             }
         }
         Line::Theory => {
-            if has_no_model(c, path.literals(), theory) {
-                close(path)
+            if has_no_model(c, path.literals(), told) {
+                close(c, path, told)
             } else {
                 Ok(Step::Bad)
             }
@@ -98,12 +113,12 @@ fn take_line<C: Clauses, T: Theory<Lit = Atom, Model = (Items<u32>, Items<i64>)>
 pub(crate) fn walk<C: Clauses, T: Theory<Lit = Atom, Model = (Items<u32>, Items<i64>)>>(
     alloc: Global,
     c: &C,
-    theory: &mut T,
+    told: &mut Told<T>,
     text: &[u8],
     from: Spot,
 ) -> Result<Spot, RecheckErr>
-    requires ready { IsReady (C.problem c.now) (T.literals theory.old) (T.capacity theory.old)
-        (T.takes theory.old) (T.models theory.old) T.meets }
+    requires ready { IsReady (C.problem c.now) [] told.old.count (T.literals told.old.theory)
+        (T.capacity told.old.theory) (T.takes told.old.theory) (T.models told.old.theory) T.meets }
     requires at { from.at ≤ length text.now }
     requires line { from.line + length text.now < 18446744073709551615 + from.at }
     ensures ok { IfOk result (Passes text.now from (tree (C.problem c.now) [] ∷ [])) }
@@ -115,7 +130,7 @@ pub(crate) fn walk<C: Clauses, T: Theory<Lit = Atom, Model = (Items<u32>, Items<
     let mut at = from.at;
     let mut line = from.line;
     while let Some(read) = read_at(text, at) {
-        match take_line(c, &mut path, theory, read.line)? {
+        match take_line(c, &mut path, told, read.line)? {
             Step::Bad => return Err(RecheckErr::BadLine { line }),
             Step::More => {
                 at = read.next;

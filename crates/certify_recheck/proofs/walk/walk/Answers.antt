@@ -2,7 +2,7 @@ use Rattle.std.proofs.Common.{◌+◌, subst, ◌∙◌, arith}
 use Rattle.certify_recheck.specs.Due.{later, tree}
 use Rattle.certify_recheck.specs.Spots.{IsBadLine, Passes}
 use Rattle.certify_recheck.specs.Walking.{IsStep}
-use Rattle.certify_recheck.proofs.Passing.{bad_here, bad_more, passes_more, spot}
+use Rattle.certify_recheck.proofs.Passing.{bad_end, bad_here, bad_more, passes_more, spot}
 use Rattle.certify_recheck.proofs.walk.walk.Goals as goal
 
 pub returns-in-Bad-clause-bad : goal.returns-in-Bad-clause-bad
@@ -37,3 +37,10 @@ loop-read-preserved g c =
           (bad_more text l.at l.line read.line read.next is_read (tree p l.path.literals) (later p l.path.literals) line step.0
           (subst (λ ds. IsBadLine text (spot read.next (l.line + 1)) ds line) step.1 h));
     }
+
+-- no line is left
+pub returns-clause-bad : goal.returns-clause-bad
+returns-clause-bad g c =
+    let p = g.C.Clauses.problem c.args.c.now in
+    let l = c.loop-read in
+    l.invariant.bad l.line (bad_end c.args.text.now l.at l.line (tree p l.path.literals) (later p l.path.literals) c.in_default.ensures)

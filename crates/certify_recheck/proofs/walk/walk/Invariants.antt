@@ -13,7 +13,7 @@ invariant-loop-read g l =
     let c = g.C.Clauses.problem l.c in
     record {
       vars : l.path.vars ≡ c.vars;
-      ready : IsReady c (theory.literals l.theory) (theory.capacity l.theory) (theory.takes l.theory) (theory.models l.theory) theory.meets;
+      ready : IsReady c l.path.literals l.told.count (theory.literals l.told.theory) (theory.capacity l.told.theory) (theory.takes l.told.theory) (theory.models l.told.theory) theory.meets;
       within : l.at ≤ length l.text;
       numbered : l.line + l.fn.from.at ≤ l.fn.from.line + l.at;
       passes : (to : Spot) → Passes l.text (spot l.at l.line) (due_at c l.path.literals) to → Passes l.text l.fn.from (tree c [] ∷ []) to;
