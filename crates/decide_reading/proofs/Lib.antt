@@ -6,4 +6,7 @@ pub mod Functional
 pub mod KeyLaws
 pub mod PairLaws
 pub mod Parts
+pub mod PlaceLaws
+pub mod Positions
+pub mod SettledLaws
 pub mod Steps

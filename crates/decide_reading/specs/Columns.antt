@@ -12,16 +12,14 @@ use Rattle.form_terms.specs.GroundTerms.{GroundTerm}
 use Rattle.form_terms.specs.Listing.{is_same_term}
 use Rattle.ground_terms.specs.declared.node.TermNode.{TermNode}
 use Rattle.ground_terms.specs.Nodes.{TermTree, one, some, trees_of, term_of, IsOne}
-use Rattle.form_tables.specs.Facts.{Assignment, is_fact, table_for}
+use Rattle.form_tables.specs.Facts.{Assignment}
 use Rattle.form_tables.specs.Consistent.{range_of, IsOfRange}
 use Rattle.ground_instances.specs.declared.input.Value.{Value}
 use Rattle.ground_instances.specs.declared.input.Value.TheVariants.{Term, Literal}
 use Rattle.ground_problem.specs.declared.words.PairNode.{PairNode}
 use Rattle.ground_problem.specs.declared.facts.FactNode.{FactNode}
 use Rattle.ground_problem.specs.declared.facts.FactNode.TheVariants.{There, Same, Below, Raised, Related, Empty}
-use Rattle.ground_problem.specs.Facts.{fact_at}
 use Rattle.decide_models.specs.declared.found.Found.{Found}
-use Rattle.decide_models.specs.Found.{IsFound}
 use Rattle.decide_reading.specs.declared.columns.Columns.{Columns}
 use Rattle.decide_reading.specs.declared.noun.Noun.{Noun as Read}
 use Rattle.decide_reading.specs.declared.noun.Noun.TheVariants as read

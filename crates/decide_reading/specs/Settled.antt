@@ -1,5 +1,5 @@
 -- Terms and pairs that have what the first with their key has.
-use Rattle.std.specs.Prelude.{◌≡◌, ℕ, Bool, false, List, Option, Some, option_and_then, Contains, slice_get, unwrap_or}
+use Rattle.std.specs.Prelude.{◌≡◌, ◌<◌, ℕ, All, Bool, false, List, Option, Some, option_and_then, Contains, slice_get, unwrap_or}
 use Rattle.form_formula.specs.declared.structure.SVal.{SVal}
 use Rattle.form_terms.specs.GroundTerms.{GroundTerm}
 use Rattle.ground_terms.specs.declared.node.TermNode.{TermNode}
@@ -8,6 +8,7 @@ use Rattle.ground_problem.specs.declared.words.PairNode.{PairNode}
 use Rattle.ground_problem.specs.Words.{pair_at}
 use Rattle.decide_models.specs.declared.found.Found.{Found}
 use Rattle.decide_reading.specs.Keys.{HaveValues, key_of, pair_key_of, value_at}
+use Rattle.decide_reading.specs.declared.broken_terms.Rivals.{Rivals}
 use Rattle.decide_reading.specs.declared.keys.Key.{Key}
 use Rattle.decide_reading.specs.declared.keys.PairKey.{PairKey}
 
@@ -20,6 +21,12 @@ abbrev pub IsSettled : List TermNode → Found → List ℕ → (Key → Option 
 IsSettled nodes found ids places id =
     (values : GroundTerm → Option SVal) (k : Key) → HaveValues nodes found values → key_of values (term_of nodes id) ≡ Some k
     → values (term_of nodes id) ≡ first_value found ids places k
+
+-- the key of the term has a first, and the term has what that has
+abbrev pub HasSettled : List TermNode → Found → List ℕ → (Key → Option ℕ) → ℕ → Type 0
+HasSettled nodes found ids places id =
+    (values : GroundTerm → Option SVal) (k : Key) → HaveValues nodes found values → key_of values (term_of nodes id) ≡ Some k
+    → (first : ℕ) × (places k ≡ Some first) × (values (term_of nodes id) ≡ option_and_then (value_at found) (slice_get ids first))
 
 -- what terms have is a function of their keys
 abbrev pub AreFunctional : (GroundTerm → Option SVal) → List GroundTerm → Type 0
@@ -37,3 +44,16 @@ abbrev pub IsPairSettled : List TermNode → Found → (PairKey → Option ℕ) 
 IsPairSettled nodes found places place pair =
     (values : GroundTerm → Option SVal) (k : PairKey) → HaveValues nodes found values → pair_key_of values (pair_at nodes pair) ≡ Some k
     → related_at found place ≡ first_related found places k
+
+-- the key of the pair has a first, and both are related or neither
+abbrev pub HasPairSettled : List TermNode → Found → (PairKey → Option ℕ) → ℕ → PairNode → Type 0
+HasPairSettled nodes found places place pair =
+    (values : GroundTerm → Option SVal) (k : PairKey) → HaveValues nodes found values → pair_key_of values (pair_at nodes pair) ≡ Some k
+    → (first : ℕ) × (places k ≡ Some first) × (related_at found place ≡ related_at found first)
+
+-- the places of rivals are below a bound
+abbrev pub IsRivals : ℕ → Rivals → Type 0
+IsRivals n two = (two.one < n) × (two.first < n)
+
+abbrev pub AreRivals : ℕ → List Rivals → Type 0
+AreRivals n rivals = All (IsRivals n) rivals

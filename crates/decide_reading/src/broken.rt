@@ -1,6 +1,6 @@
 //! The clauses of congruence that what was found breaks.
 
-ghost use Rattle.std.specs.Prelude.{◌≡◌, ◌≢◌, ◌++◌, [], All, None, IfOk, IfSome, map, true};
+ghost use Rattle.std.specs.Prelude.{◌≡◌, ◌≢◌, ◌++◌, [], All, None, IfOk, IfSome, length, map, true};
 ghost use Rattle.form_formula.specs.declared.structure.Signature.{Signature as AnySignature};
 ghost use Rattle.form_tables.specs.Table.{Table};
 ghost use Rattle.decide_models.specs.Found.{IsFound};
@@ -8,6 +8,7 @@ ghost use Rattle.ground_problem.specs.Words.{IsWords, vocabulary_at};
 ghost use Rattle.decide_reading.specs.Broken.{IsBroken};
 ghost use Rattle.decide_reading.specs.Congruent.{AreCongruences, IsCongruent};
 ghost use Rattle.decide_reading.specs.Few.{AreBrokenOnes};
+ghost use Rattle.decide_reading.specs.Settled.{AreRivals};
 
 use crate::broken_pairs::pair_rivals_among;
 use crate::broken_terms::{Rivals, rivals_among};
@@ -43,7 +44,10 @@ fn clauses_on(
     terms: &[Rivals],
     pairs: &[Rivals],
 ) -> Result<Vec<Vec<FactLiteral>>, AllocError>
-    requires { IsWords speech.terms.now speech.words.now }
+    requires words { IsWords speech.terms.now speech.words.now }
+    requires terms { AreRivals (length (speech.words.now.named.items ++
+        speech.words.now.others.items)) terms.now }
+    requires pairs { AreRivals (length speech.words.now.pairs.items) pairs.now }
     ensures { IfOk result (λ clauses. AreBrokenOnes speech.entry.signature.now
         speech.entry.arena.now speech.entry.terms.now speech.entry.words.now
         speech.entry.found.now (map (λ c. c.items) clauses.items)) }

@@ -1,12 +1,13 @@
 //! The pairs that break a clause of congruence.
 
-ghost use Rattle.std.specs.Prelude.{◌≡◌, ◌<◌, ℕ, [], Option, None, Some, IfOk, OnOk, slice_get};
-ghost use Rattle.indexmap.specs.IndexMap.{get, IndexMap as AnyMap};
-ghost use Rattle.ground_terms.specs.Nodes.{IsOne};
+ghost use Rattle.std.specs.Prelude.{◌≡◌, ◌<◌, ℕ, [], true, Option, None, Some, length, slice_get};
+ghost use Rattle.std.specs.Prelude.{IfOk, IfSome, OnOk};
+ghost use Rattle.indexmap.specs.IndexMap.{get};
 ghost use Rattle.ground_problem.specs.Words.{ArePairs};
 ghost use Rattle.ground_problem.specs.declared.words.PairNode.{PairNode as AnyPair};
 ghost use Rattle.decide_reading.specs.declared.keys.PairKey.{PairKey as AnyPairKey};
-ghost use Rattle.decide_reading.specs.Settled.{IsPairSettled, related_at};
+ghost use Rattle.decide_reading.specs.Firsts.{ArePlacesBelow, KeepsPlaces};
+ghost use Rattle.decide_reading.specs.Settled.{AreRivals, HasPairSettled, IsPairSettled, related_at};
 ghost use Rattle.decide_reading.specs.contracts.keys.PairKeyPartialEq.TheImpl as key_eq;
 
 use crate::broken_terms::Rivals;
@@ -26,63 +27,71 @@ pub(crate) fn is_related(found: &Found, place: usize) -> bool
     }
 }
 
-/// For each key of some pairs the first of them that has it.
-fn firsts_of(
-    alloc: Global,
-    source: Source<'_>,
-    pairs: &[PairNode],
-) -> Result<Firsts<PairKey>, AllocError>
-    requires { ArePairs source.terms.now pairs.now }
+/// Whether the set relations of the pairs at two places hold both, or neither does.
+fn are_alike(found: &Found, one: usize, first: usize) -> bool
+    ensures { result ≡ true → related_at found.now one ≡ related_at found.now first }
 {
-    let mut firsts = Firsts::new(alloc);
-    for place in 0..pairs.len() {
-        if let Some(key) = pair_key_at(source, pairs[place]) {
-            firsts.note(key, place)?;
-        }
+    match (is_related(found, one), is_related(found, first)) {
+        (true, true) | (false, false) => true,
+        (true, false) | (false, true) => false,
     }
-    Ok(firsts)
 }
 
-/// The place of the first pair with a pair's key, if only one of the two is related. A key without
-/// a place counts as memory that is not there.
+/// The place of the first pair with a pair's key, if only one of the two is related; where none was
+/// noted this pair is the first.
 fn rival_of(
     source: Source<'_>,
-    firsts: &Firsts<PairKey>,
-    place: usize,
-    pair: PairNode,
+    pairs: &[PairNode],
+    one: usize,
+    firsts: &mut Firsts<PairKey>,
 ) -> Result<Option<usize>, AllocError>
-    requires holder { IsOne source.terms.now pair.holder }
-    requires member { IsOne source.terms.now pair.member }
-    ensures { IfOk result (λ rival. rival ≡ None → IsPairSettled source.entry.terms.now
-        source.entry.found.now (get (key_eq.ghosts).eq firsts.now.places) place pair) }
+    requires pairs { ArePairs source.terms.now pairs.now }
+    requires one { one < length pairs.now }
+    requires below { ArePlacesBelow (length pairs.now) (get (key_eq.ghosts).eq firsts.old.places) }
+    ensures kept { OnOk result (KeepsPlaces (get (key_eq.ghosts).eq firsts.old.places)
+        (get (key_eq.ghosts).eq firsts.new.places)) }
+    ensures below { OnOk result (ArePlacesBelow (length pairs.now)
+        (get (key_eq.ghosts).eq firsts.new.places)) }
+    ensures within { IfOk result (λ rival. IfSome rival (λ first. first < length pairs.now)) }
+    ensures settled { IfOk result (λ rival. rival ≡ None → (pair : AnyPair) →
+        slice_get pairs.now one ≡ Some pair → HasPairSettled source.entry.terms.now
+        source.entry.found.now (get (key_eq.ghosts).eq firsts.new.places) one pair) }
 {
-    let Some(key) = pair_key_at(source, pair) else {
-        return Ok(None);
-    };
-    let Some(first) = firsts.place_of(&key) else {
-        return Err(AllocError);
-    };
-    if is_related(source.found, place) == is_related(source.found, first) {
-        return Ok(None);
+    match pair_key_at(source, pairs[one]) {
+        None => Ok(None),
+        Some(key) => {
+            let first = firsts.first_of(key, one)?;
+            if are_alike(source.found, one, first) {
+                return Ok(None);
+            }
+            Ok(Some(first))
+        }
     }
-    Ok(Some(first))
 }
 
 /// Notes a pair with the first that has its key, if they are rivals.
 fn note_rival(
     source: Source<'_>,
-    firsts: &Firsts<PairKey>,
+    pairs: &[PairNode],
     one: usize,
-    pair: PairNode,
+    firsts: &mut Firsts<PairKey>,
     rivals: &mut Vec<Rivals>,
 ) -> Result<(), AllocError>
-    requires holder { IsOne source.terms.now pair.holder }
-    requires member { IsOne source.terms.now pair.member }
+    requires pairs { ArePairs source.terms.now pairs.now }
+    requires one { one < length pairs.now }
+    requires below { ArePlacesBelow (length pairs.now) (get (key_eq.ghosts).eq firsts.old.places) }
+    ensures kept { OnOk result (KeepsPlaces (get (key_eq.ghosts).eq firsts.old.places)
+        (get (key_eq.ghosts).eq firsts.new.places)) }
+    ensures below { OnOk result (ArePlacesBelow (length pairs.now)
+        (get (key_eq.ghosts).eq firsts.new.places)) }
+    ensures within { OnOk result (AreRivals (length pairs.now) rivals.old.items →
+        AreRivals (length pairs.now) rivals.new.items) }
     ensures before { OnOk result (rivals.new.items ≡ [] → rivals.old.items ≡ []) }
-    ensures settled { OnOk result (rivals.new.items ≡ [] → IsPairSettled source.entry.terms.now
-        source.entry.found.now (get (key_eq.ghosts).eq firsts.now.places) one pair) }
+    ensures settled { OnOk result (rivals.new.items ≡ [] → (pair : AnyPair) →
+        slice_get pairs.now one ≡ Some pair → HasPairSettled source.entry.terms.now
+        source.entry.found.now (get (key_eq.ghosts).eq firsts.new.places) one pair) }
 {
-    if let Some(first) = rival_of(source, firsts, one, pair)? {
+    if let Some(first) = rival_of(source, pairs, one, firsts)? {
         rivals.push(Rivals { one, first })?;
     }
     Ok(())
@@ -95,14 +104,15 @@ pub(crate) fn pair_rivals_among(
     pairs: &[PairNode],
 ) -> Result<Vec<Rivals>, AllocError>
     requires { ArePairs source.terms.now pairs.now }
-    ensures { IfOk result (λ rivals. rivals.items ≡ [] → (places : AnyPairKey → Option ℕ) ×
+    ensures within { IfOk result (λ rivals. AreRivals (length pairs.now) rivals.items) }
+    ensures none { IfOk result (λ rivals. rivals.items ≡ [] → (places : AnyPairKey → Option ℕ) ×
         ((k : ℕ) (pair : AnyPair) → slice_get pairs.now k ≡ Some pair → IsPairSettled
         source.entry.terms.now source.entry.found.now places k pair)) }
 {
-    let firsts = firsts_of(alloc, source, pairs)?;
+    let mut firsts = Firsts::new(alloc);
     let mut rivals = Vec::new(alloc);
     for place in 0..pairs.len() {
-        note_rival(source, &firsts, place, pairs[place], &mut rivals)?;
+        note_rival(source, pairs, place, &mut firsts, &mut rivals)?;
     }
     Ok(rivals)
 }

@@ -1,13 +1,14 @@
 //! The terms that break a clause of congruence.
 
-ghost use Rattle.std.specs.Prelude.{◌≡◌, [], true, Option, None, IfOk, OnOk};
+ghost use Rattle.std.specs.Prelude.{◌≡◌, ◌<◌, ℕ, [], true, length, slice_get, slice_index, Option, None, Some};
+ghost use Rattle.std.specs.Prelude.{IfOk, IfSome, OnOk};
 ghost use Rattle.indexmap.specs.IndexMap.{get};
 ghost use Rattle.form_formula.specs.declared.structure.SVal.{SVal as AnyValue};
 ghost use Rattle.ground_terms.specs.Standing.{AreOnes, terms_at};
 ghost use Rattle.form_terms.specs.GroundTerms.{GroundTerm};
-ghost use Rattle.ground_terms.specs.Nodes.{IsOne};
+ghost use Rattle.decide_reading.specs.Firsts.{ArePlacesBelow, KeepsPlaces};
 ghost use Rattle.decide_reading.specs.Keys.{HaveValues, value_at};
-ghost use Rattle.decide_reading.specs.Settled.{AreFunctional, IsSettled};
+ghost use Rattle.decide_reading.specs.Settled.{AreFunctional, AreRivals, HasSettled};
 ghost use Rattle.decide_reading.specs.contracts.keys.KeyPartialEq.TheImpl as key_eq;
 
 use crate::firsts::Firsts;
@@ -48,45 +49,48 @@ fn have_same(found: &Found, x: u32, y: u32) -> bool
     }
 }
 
-/// For each key of some terms the first of them that has it.
-fn firsts_of(alloc: Global, source: Source<'_>, ids: &[u32]) -> Result<Firsts<Key>, AllocError>
-    requires { AreOnes source.terms.now ids.now }
+/// Whether the terms at two places have the same, or both have nothing.
+fn have_same_at(found: &Found, ids: &[u32], one: usize, first: usize) -> bool
+    requires one { one < length ids.now }
+    requires first { first < length ids.now }
+    ensures { result ≡ true → value_at found.now (slice_index ids.now one) ≡ value_at found.now
+        (slice_index ids.now first) }
 {
-    let mut firsts = Firsts::new(alloc);
-    for place in 0..ids.len() {
-        if let Some(key) = key_at(alloc, source, ids[place])? {
-            firsts.note(key, place)?;
-        }
-    }
-    Ok(firsts)
+    have_same(found, ids[one], ids[first])
 }
 
-/// The place of the first term with a term's key, if that has something else. A key without a place
-/// counts as memory that is not there.
+/// The place of the first term with a term's key, if that has something else; where none was noted
+/// this term is the first.
 fn rival_of(
     alloc: Global,
     source: Source<'_>,
     ids: &[u32],
-    firsts: &Firsts<Key>,
-    id: u32,
+    one: usize,
+    firsts: &mut Firsts<Key>,
 ) -> Result<Option<usize>, AllocError>
-    requires { IsOne source.terms.now id }
-    ensures { IfOk result (λ rival. rival ≡ None → IsSettled source.entry.terms.now
-        source.entry.found.now ids.now (get (key_eq.ghosts).eq firsts.now.places) id) }
+    requires ones { AreOnes source.terms.now ids.now }
+    requires one { one < length ids.now }
+    requires below { ArePlacesBelow (length ids.now) (get (key_eq.ghosts).eq firsts.old.places) }
+    ensures kept { OnOk result (KeepsPlaces (get (key_eq.ghosts).eq firsts.old.places)
+        (get (key_eq.ghosts).eq firsts.new.places)) }
+    ensures below { OnOk result (ArePlacesBelow (length ids.now)
+        (get (key_eq.ghosts).eq firsts.new.places)) }
+    ensures within { IfOk result (λ rival. IfSome rival (λ first. first < length ids.now)) }
+    ensures settled { IfOk result (λ rival. rival ≡ None → (id : ℕ) → slice_get ids.now one ≡ Some id
+        → HasSettled source.entry.terms.now source.entry.found.now ids.now
+        (get (key_eq.ghosts).eq firsts.new.places) id) }
 {
-    let Some(key) = key_at(alloc, source, id)? else {
-        return Ok(None);
-    };
-    let Some(place) = firsts.place_of(&key) else {
-        return Err(AllocError);
-    };
-    let Some(first) = ids.get(place).copied() else {
-        return Err(AllocError);
-    };
-    if have_same(source.found, id, first) {
-        return Ok(None);
+    let key = key_at(alloc, source, ids[one])?;
+    match key {
+        None => Ok(None),
+        Some(key) => {
+            let first = firsts.first_of(key, one)?;
+            if have_same_at(source.found, ids, one, first) {
+                return Ok(None);
+            }
+            Ok(Some(first))
+        }
     }
-    Ok(Some(place))
 }
 
 /// Notes a term with the first that has its key, if they are rivals.
@@ -94,17 +98,25 @@ fn note_rival(
     alloc: Global,
     source: Source<'_>,
     ids: &[u32],
-    firsts: &Firsts<Key>,
     one: usize,
-    id: u32,
+    firsts: &mut Firsts<Key>,
     rivals: &mut Vec<Rivals>,
 ) -> Result<(), AllocError>
-    requires { IsOne source.terms.now id }
+    requires ones { AreOnes source.terms.now ids.now }
+    requires one { one < length ids.now }
+    requires below { ArePlacesBelow (length ids.now) (get (key_eq.ghosts).eq firsts.old.places) }
+    ensures kept { OnOk result (KeepsPlaces (get (key_eq.ghosts).eq firsts.old.places)
+        (get (key_eq.ghosts).eq firsts.new.places)) }
+    ensures below { OnOk result (ArePlacesBelow (length ids.now)
+        (get (key_eq.ghosts).eq firsts.new.places)) }
+    ensures within { OnOk result (AreRivals (length ids.now) rivals.old.items →
+        AreRivals (length ids.now) rivals.new.items) }
     ensures before { OnOk result (rivals.new.items ≡ [] → rivals.old.items ≡ []) }
-    ensures settled { OnOk result (rivals.new.items ≡ [] → IsSettled source.entry.terms.now
-        source.entry.found.now ids.now (get (key_eq.ghosts).eq firsts.now.places) id) }
+    ensures settled { OnOk result (rivals.new.items ≡ [] → (id : ℕ) → slice_get ids.now one ≡ Some id
+        → HasSettled source.entry.terms.now source.entry.found.now ids.now
+        (get (key_eq.ghosts).eq firsts.new.places) id) }
 {
-    if let Some(first) = rival_of(alloc, source, ids, firsts, id)? {
+    if let Some(first) = rival_of(alloc, source, ids, one, firsts)? {
         rivals.push(Rivals { one, first })?;
     }
     Ok(())
@@ -117,14 +129,15 @@ pub(crate) fn rivals_among(
     ids: &[u32],
 ) -> Result<Vec<Rivals>, AllocError>
     requires { AreOnes source.terms.now ids.now }
-    ensures { IfOk result (λ rivals. rivals.items ≡ [] → (values : GroundTerm → Option AnyValue) →
+    ensures within { IfOk result (λ rivals. AreRivals (length ids.now) rivals.items) }
+    ensures none { IfOk result (λ rivals. rivals.items ≡ [] → (values : GroundTerm → Option AnyValue) →
         HaveValues source.entry.terms.now source.entry.found.now values →
         AreFunctional values (terms_at source.entry.terms.now ids.now)) }
 {
-    let firsts = firsts_of(alloc, source, ids)?;
+    let mut firsts = Firsts::new(alloc);
     let mut rivals = Vec::new(alloc);
     for place in 0..ids.len() {
-        note_rival(alloc, source, ids, &firsts, place, ids[place], &mut rivals)?;
+        note_rival(alloc, source, ids, place, &mut firsts, &mut rivals)?;
     }
     Ok(rivals)
 }

@@ -1,9 +1,10 @@
 //! The clauses of congruence of few words that what was found breaks.
 
-ghost use Rattle.std.specs.Prelude.{◌∷◌, [], OnOk, map};
+ghost use Rattle.std.specs.Prelude.{◌<◌, ◌∷◌, ◌++◌, [], OnOk, length, map};
 ghost use Rattle.ground_problem.specs.Words.{IsWords};
 ghost use Rattle.decide_reading.specs.Congruent.{AreCongruences};
 ghost use Rattle.decide_reading.specs.Few.{AreBrokenOnes, IsPart};
+ghost use Rattle.decide_reading.specs.Settled.{AreRivals, IsRivals};
 
 use crate::broken_terms::Rivals;
 use crate::keys::Source;
@@ -26,35 +27,24 @@ pub(crate) struct Speech<'a> {
 
 /// Adds the term at a place, where those that name elements come first.
 fn add_term(words: &Words, place: usize, few: &mut Words) -> Result<(), AllocError>
+    requires { place < length (words.now.named.items ++ words.now.others.items) }
     ensures { OnOk result (IsPart words.now few.old → IsPart words.now few.new) }
 {
-    if let Some(id) = words.named.get(place).copied() {
-        few.named.push(id)?;
-        return Ok(());
+    if place < words.named.len() {
+        few.named.push(words.named[place])?;
+    } else {
+        few.others.push(words.others[place - words.named.len()])?;
     }
-    let Some(behind) = place.checked_sub(words.named.len()) else {
-        return Err(AllocError);
-    };
-    match words.others.get(behind).copied() {
-        Some(id) => {
-            few.others.push(id)?;
-            Ok(())
-        }
-        None => Err(AllocError),
-    }
+    Ok(())
 }
 
 /// Adds the pair at a place.
 fn add_pair(words: &Words, place: usize, few: &mut Words) -> Result<(), AllocError>
+    requires { place < length words.now.pairs.items }
     ensures { OnOk result (IsPart words.now few.old → IsPart words.now few.new) }
 {
-    match words.pairs.get(place).copied() {
-        Some(pair) => {
-            few.pairs.push(pair)?;
-            Ok(())
-        }
-        None => Err(AllocError),
-    }
+    few.pairs.push(words.pairs[place])?;
+    Ok(())
 }
 
 /// No words.
@@ -137,7 +127,8 @@ fn push_terms(
     rivals: Rivals,
     clauses: &mut Vec<Vec<FactLiteral>>,
 ) -> Result<(), AllocError>
-    requires { IsWords speech.terms.now speech.words.now }
+    requires words { IsWords speech.terms.now speech.words.now }
+    requires within { IsRivals (length (speech.words.now.named.items ++ speech.words.now.others.items)) rivals }
     ensures { OnOk result (AreBrokenOnes speech.entry.signature.now speech.entry.arena.now
         speech.entry.terms.now speech.entry.words.now speech.entry.found.now (map (λ c. c.items)
         clauses.old.items) → AreBrokenOnes speech.entry.signature.now speech.entry.arena.now
@@ -157,7 +148,8 @@ fn push_pairs(
     rivals: Rivals,
     clauses: &mut Vec<Vec<FactLiteral>>,
 ) -> Result<(), AllocError>
-    requires { IsWords speech.terms.now speech.words.now }
+    requires words { IsWords speech.terms.now speech.words.now }
+    requires within { IsRivals (length speech.words.now.pairs.items) rivals }
     ensures { OnOk result (AreBrokenOnes speech.entry.signature.now speech.entry.arena.now
         speech.entry.terms.now speech.entry.words.now speech.entry.found.now (map (λ c. c.items)
         clauses.old.items) → AreBrokenOnes speech.entry.signature.now speech.entry.arena.now
@@ -177,7 +169,8 @@ pub(crate) fn push_each_terms(
     rivals: &[Rivals],
     clauses: &mut Vec<Vec<FactLiteral>>,
 ) -> Result<(), AllocError>
-    requires { IsWords speech.terms.now speech.words.now }
+    requires words { IsWords speech.terms.now speech.words.now }
+    requires within { AreRivals (length (speech.words.now.named.items ++ speech.words.now.others.items)) rivals.now }
     ensures { OnOk result (AreBrokenOnes speech.entry.signature.now speech.entry.arena.now
         speech.entry.terms.now speech.entry.words.now speech.entry.found.now (map (λ c. c.items)
         clauses.old.items) → AreBrokenOnes speech.entry.signature.now speech.entry.arena.now
@@ -197,7 +190,8 @@ pub(crate) fn push_each_pairs(
     rivals: &[Rivals],
     clauses: &mut Vec<Vec<FactLiteral>>,
 ) -> Result<(), AllocError>
-    requires { IsWords speech.terms.now speech.words.now }
+    requires words { IsWords speech.terms.now speech.words.now }
+    requires within { AreRivals (length speech.words.now.pairs.items) rivals.now }
     ensures { OnOk result (AreBrokenOnes speech.entry.signature.now speech.entry.arena.now
         speech.entry.terms.now speech.entry.words.now speech.entry.found.now (map (λ c. c.items)
         clauses.old.items) → AreBrokenOnes speech.entry.signature.now speech.entry.arena.now

@@ -4,7 +4,7 @@
 //! - `noun`: what may be equal or compared.
 //! - `pairs`: [`Pairs`].
 //! - `check`: [`check_facts`].
-//! - `ranges`: [`check_ranges`].
+//! - `ranges`: what terms may have.
 //! - `finding`: [`found_by`].
 //! - `classes`: the classes of arguments.
 //! - `keys`: what the values of terms and of pairs are functions of.
@@ -35,4 +35,4 @@ pub use check::{Source, check_facts};
 pub use columns::Columns;
 pub use finding::found_by;
 pub use pairs::Pairs;
-pub use ranges::{check_ranges, range_at};
+pub use ranges::range_at;

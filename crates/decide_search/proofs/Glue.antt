@@ -37,6 +37,8 @@ use Rattle.ground_problem.specs.declared.facts.FactLiteral.{FactLiteral}
 use Rattle.ground_problem.specs.declared.facts.FactNode.{FactNode}
 use Rattle.ground_problem.specs.declared.ground.GroundClauses.{GroundClauses}
 use Rattle.decide_models.specs.declared.found.Found.{Found}
+use Rattle.decide_search.specs.Ranged.{AreRanged}
+use Rattle.decide_search.proofs.RangedLaws.{typed_all}
 use Rattle.decide_search.specs.declared.mixture.Mixture.{Mixture}
 use Rattle.decide_reading.specs.Columns.{AreFound, AreTyped, IsTypedAt, IsSo, assignment_by}
 use Rattle.decide_reading.specs.declared.columns.Columns.{Columns}
@@ -196,16 +198,16 @@ broken_by g nodes terms w facts values found o clauses e has congruences broken 
 
 -- the columns of what was found, where the lists are these
 pub columns_as : (g : Signature) (nodes : List Node) (terms : List TermNode) (w : Words) (facts : List FactNode) (values : List Bool) (found : Found) (c : Columns)
-    (pairs : List PairNode) (vs : List Bool) (named others : List ℕ) → pairs ≡ w.pairs.items → vs ≡ values → named ≡ w.named.items → others ≡ w.others.items
-    → ((k : ℕ) (p : FactNode) → slice_get facts k ≡ Some p → IsSo nodes terms pairs c p (unwrap_or (slice_get vs k) false)) → AreTyped g terms c named → AreTyped g terms c others
+    (pairs : List PairNode) (vs : List Bool) → pairs ≡ w.pairs.items → vs ≡ values → IsWords terms w
+    → ((k : ℕ) (p : FactNode) → slice_get facts k ≡ Some p → IsSo nodes terms pairs c p (unwrap_or (slice_get vs k) false)) → AreRanged g terms c
     → AreFound terms pairs c found → HasColumns g nodes terms w facts values found
-columns_as g nodes terms w facts values found c pairs vs named others p q r s so typed typed' is = record {
+columns_as g nodes terms w facts values found c pairs vs p q words so ranged is = record {
   columns = c;
   so = λ k fact e.
       subst (λ (ps : List PairNode). IsSo nodes terms ps c fact (unwrap_or (slice_get values k) false)) p
       (subst (λ (vs : List Bool). IsSo nodes terms pairs c fact (unwrap_or (slice_get vs k) false)) q (so k fact e));
-  named_typed = subst (λ (ids : List ℕ). AreTyped g terms c ids) r typed;
-  others_typed = subst (λ (ids : List ℕ). AreTyped g terms c ids) s typed';
+  named_typed = typed_all g terms c w.named.items ranged words.named;
+  others_typed = typed_all g terms c w.others.items ranged words.others;
   is_found = subst (λ (ps : List PairNode). AreFound terms ps c found) p is;
 }
 

@@ -2,9 +2,12 @@ pub mod Encoded
 pub mod Fixed
 pub mod Glue
 pub mod Halved
+pub mod LetterTexts
 pub mod Loops
 pub mod ModelColumns
 pub mod Places
+pub mod RangedLaws
 pub mod Rounds
 pub mod Solved
+pub mod Taken
 pub mod TextLists

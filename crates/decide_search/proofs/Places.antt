@@ -1,9 +1,11 @@
 -- A list by its places.
-use Rattle.std.proofs.Common.{◌≡◌, ℕ, suc, ◌+◌, ◌<◌, Bool, true, false, refl, sym, ◌∙◌, List, [], ◌∷◌, length, get_or, map, ap, subst, arith, ◌++◌}
+use Rattle.std.proofs.Common.{◌≡◌, ℕ, suc, ◌+◌, ◌<◌, Bool, true, false, refl, sym, ◌∙◌, List, [], ◌∷◌, length, get_or, map, ap, subst, arith, ◌++◌, Contains, IsTrue}
 use Rattle.std.specs.Prelude.{IsSome, Option, Some, None, IfSome}
 use Rattle.std.specs.List.{range_with_len}
 use Rattle.std.proofs.lemmas.List.FromFn.{map-range_with_len_more}
-use Rattle.solve_solver.specs.Assignment.{IsLawful, value_at, literal_value}
+use Rattle.form_terms.proofs.Kept.{All-from, All-Contains}
+use Rattle.solve_theory.specs.Models.{IsModelOf}
+use Rattle.solve_solver.specs.Assignment.{IsLawful, SameLiterals, theory_literals, value_at, literal_value}
 use Rattle.solve_solver.specs.declared.literal.PLit.{PLit}
 use Rattle.decide_search.specs.Mixed.{AreValues}
 
@@ -61,3 +63,24 @@ found_lawful {M} {L} models before meets n vars own clauses old atoms first (Som
     let S : List (List PLit) → Type 0 = λ clauses. IsLawful before meets own clauses atoms values in
     let T : List (Option (L × L)) → Type 0 = λ atoms. IsLawful before meets own old atoms values in
     subst T b (subst S d (subst R e (subst Q m (subst P (sym same) h))))
+
+-- a model of the literals that a solver holds is one of those for the values
+pub found_model : {M L : Type 0} (models before : M → Bool) (meets : M → L → Bool) (n vars own : ℕ) (clauses : List (List PLit)) (atoms first : List (Option (L × L))) (o : Option (List Bool)) (values : List Bool)
+    (literals : List L) (m : M) → IsSome o → IfSome o (IsLawful models meets vars clauses atoms) → IfSome o (λ a. values ≡ map (value_at a) (range_with_len 0 n))
+    → IfSome o (λ a. SameLiterals literals (theory_literals a atoms)) → models ≡ before → vars ≡ own → own ≡ n → atoms ≡ first → IsModelOf models meets literals m
+    → IsModelOf before meets (theory_literals values first) m
+found_model models before meets n vars own clauses atoms first None values literals m some h k s mo e f b is = absurd (none_some some)
+  where
+    none_some : false ≡ true → ⊥
+    none_some e = cc
+found_model {M} {L} models before meets n vars own clauses atoms first (Some a) values literals m some h k s mo e f b is =
+    let same : values ≡ a = k ∙ all_places a n (h.one_each ∙ (e ∙ f)) in
+    let met : IsModelOf models meets (theory_literals a atoms) m = record {
+      is_model = is.is_model;
+      meets_each = All-from (λ l. IsTrue (meets m l)) (theory_literals a atoms) (λ l there.
+          All-Contains (λ l. IsTrue (meets m l)) literals l is.meets_each (All-Contains (Contains literals) (theory_literals a atoms) l s.back there));
+    } in
+    let P : List Bool → Type 0 = λ values. IsModelOf models meets (theory_literals values atoms) m in
+    let Q : (M → Bool) → Type 0 = λ models. IsModelOf models meets (theory_literals values atoms) m in
+    let T : List (Option (L × L)) → Type 0 = λ atoms. IsModelOf before meets (theory_literals values atoms) m in
+    subst T b (subst Q mo (subst P (sym same) met))

@@ -3,5 +3,7 @@ pub mod Halving
 pub mod Mixed
 pub mod Problem
 pub mod Public
+pub mod Ranged
+pub mod Sides
 pub mod Tabled
 pub mod Texts

@@ -6,7 +6,8 @@ use Rattle.solve_order.specs.Difference.{is_assignment, is_literal, meets}
 use Rattle.solve_order.specs.declared.diff.Diff.{Diff}
 use Rattle.solve_theory.specs.Pair.{are_models, meets_own, takes_own}
 use Rattle.solve_theory.specs.declared.pair.PairLit.{PairLit}
-use Rattle.solve_solver.specs.Assignment.{IsLawful, meets_clause}
+use Rattle.solve_theory.specs.Models.{IsModelOf}
+use Rattle.solve_solver.specs.Assignment.{IsLawful, meets_clause, theory_literals}
 use Rattle.solve_solver.specs.ContextView.{IsTaken}
 use Rattle.solve_solver.specs.declared.literal.PLit.{PLit}
 use Rattle.decide_search.specs.declared.mixture.Mixture.{Mixture}
@@ -32,3 +33,8 @@ pub record AreValues (vars : ℕ) (clauses : List (List PLit)) (values : List Bo
 
 abbrev pub IsMixture : ℕ → List (List PLit) → Mixture → Type 0
 IsMixture vars clauses m = AreValues vars clauses m.values.items
+
+-- the classes and the numbers are a model of the literals for the values
+abbrev pub IsModelled : ℕ → List ℕ → ℕ → List Atom → Mixture → Type 0
+IsModelled terms fixed variables atoms m =
+    IsModelOf (are_models (is_classes terms fixed) (is_assignment variables)) (meets_own meets_literal meets) (theory_literals m.values.items atoms) (m.classes, m.numbers)

@@ -92,7 +92,7 @@ fn agrees(
 ) -> Result<bool, AllocError>
     requires { IsWords reader.terms.now reader.words.now }
 {
-    let columns = columns_of(alloc, reader, ground.facts, mixture, classes)?;
+    let columns = columns_of(alloc, reader, pairs, ground.facts, mixture, classes)?;
     let source = Source {
         arena: reader.arena,
         terms: reader.terms,
@@ -151,7 +151,7 @@ pub(crate) fn joined_classes(
 {
     let mut classes = Vec::from_slice(alloc, mixture.classes.as_slice())?;
     let own = classes.as_slice();
-    let columns = columns_of(alloc, reader, ground.facts, mixture, own)?;
+    let columns = columns_of(alloc, reader, pairs, ground.facts, mixture, own)?;
     if !is_congruent(alloc, reader, &columns, pairs)? {
         return Ok(classes);
     }

@@ -3,11 +3,12 @@
 ghost use Rattle.std.specs.Prelude.{◌≡◌, ◌≢◌, ◌<◌, ◌^◌, List, Bool, None, All, AllPairs, length, map};
 ghost use Rattle.std.specs.Prelude.{[], IfOk, IfSome, IsSome};
 ghost use Rattle.std.specs.List.{range_with_len};
-ghost use Rattle.solve_solver.specs.Assignment.{value_at};
+ghost use Rattle.solve_theory.specs.Models.{IsModelOf};
+ghost use Rattle.solve_solver.specs.Assignment.{theory_literals, value_at};
 ghost use Rattle.solve_solver.specs.SolverView.{IsLawfulFor};
 ghost use Rattle.solve_solver.specs.Clauses.{IsWithin};
 ghost use Rattle.solve_solver.specs.declared.limits.TheConstants.{TOO_MANY};
-ghost use Rattle.decide_search.specs.Mixed.{AreTaken, AreValues, IsMixed, IsMixture};
+ghost use Rattle.decide_search.specs.Mixed.{AreTaken, AreValues, IsMixed, IsMixture, IsModelled};
 
 use solve_equality::{Equality, EqualityLit};
 use solve_order::{Diff, Order};
@@ -56,6 +57,8 @@ fn answer<T: Theory>(
         both.0.items)) }
     ensures lawful { IfOk result (λ found. IfSome found (λ both. IsLawfulFor T.models T.meets
         solver.old both.0.items)) }
+    ensures modelled { IfOk result (λ found. IfSome found (λ both. IsModelOf (T.models
+        solver.old.theory) T.meets (theory_literals both.0.items solver.old.atoms) both.1)) }
 {
     match solver.search() {
         Answer::Unsat => Ok(None),
@@ -92,6 +95,8 @@ fn last_answer<T: Theory + Drop>(
         both.0.items)) }
     ensures lawful { IfOk result (λ found. IfSome found (λ both. IsLawfulFor T.models T.meets
         solver both.0.items)) }
+    ensures modelled { IfOk result (λ found. IfSome found (λ both. IsModelOf (T.models
+        solver.theory) T.meets (theory_literals both.0.items solver.atoms) both.1)) }
 {
     let mut solver = solver;
     prefer(&mut solver, first);
@@ -157,6 +162,8 @@ pub fn search_mixed(
     ensures some { IfOk result (λ found. IfSome found (IsMixture vars clauses.list)) }
     ensures mixed { IfOk result (λ found. IfSome found (λ m. IsMixed terms fixed.now numbers vars
         clauses.list atoms m.values.items)) }
+    ensures modelled { IfOk result (λ found. IfSome found (IsModelled terms fixed.now numbers
+        atoms)) }
 {
     let theory = procedures(alloc, terms, fixed, numbers, vars as usize)?;
     let solver = Solver::with_clauses(alloc, vars, clauses, atoms, theory)?;

@@ -1,6 +1,6 @@
 //! The search.
 
-ghost use Rattle.std.specs.Prelude.{◌≡◌, ◌<◌, ◌++◌, Bool, List, [], Contains, IfOk, IfSome, None, length, map};
+ghost use Rattle.std.specs.Prelude.{◌≡◌, ◌≤◌, ◌<◌, ◌++◌, All, Bool, List, [], Contains, IfOk, IfSome, None, length, map};
 ghost use Rattle.form_formula.specs.NormalForm.{IsNormal};
 ghost use Rattle.form_formula.specs.Nodes.{IsFormula, formula_of};
 ghost use Rattle.form_formula.specs.Over.{IsOver};
@@ -14,7 +14,8 @@ ghost use Rattle.ground_problem.specs.Inputs.{AreFieldsOf};
 ghost use Rattle.ground_problem.specs.Spoken.{IsSpoken};
 ghost use Rattle.ground_problem.specs.Words.{IsWords, vocabulary_at};
 ghost use Rattle.decide_search.specs.declared.mixture.Mixture.{Mixture as AnyMixture};
-ghost use Rattle.decide_search.specs.Problem.{AreSolved, IsNowhere};
+ghost use Rattle.decide_search.specs.Problem.{AreBelow, AreSolved, IsNowhere};
+ghost use Rattle.decide_search.specs.Sides.{AreBelowEnd};
 ghost use Rattle.decide_search.specs.Tabled.{AreBrokenBy, AreListed, AreNewCongruences, HasColumns};
 ghost use Rattle.decide_search.specs.Tabled.{HasTable, IsFoundCongruent, IsGroundFor, IsRound};
 ghost use Rattle.decide_search.specs.Tabled.{IsTabled};
@@ -31,7 +32,7 @@ use crate::solving::{Ground, solve};
 use crate::tabled::Tabled;
 use crate::texts::{see_texts, texts_of};
 use decide_models::Found;
-use decide_reading::{Pairs, Source, broken_congruences, check_facts, check_ranges, found_by};
+use decide_reading::{Pairs, Source, broken_congruences, check_facts, found_by};
 use form_formula::{Arena, Signature};
 use ground_gates::Literal;
 use ground_instances::{Instances, instantiate};
@@ -55,7 +56,7 @@ fn found_so(
 {
     let classes = joined_classes(alloc, reader, ground, mixture, pairs)?;
     let own = classes.as_slice();
-    let columns = columns_of(alloc, reader, ground.facts, mixture, own)?;
+    let columns = columns_of(alloc, reader, pairs, ground.facts, mixture, own)?;
     let source = Source {
         arena: reader.arena,
         terms: reader.terms,
@@ -63,18 +64,6 @@ fn found_so(
         columns: &columns,
     };
     check_facts(source, ground.facts, mixture.values.as_slice())?;
-    check_ranges(
-        reader.signature,
-        reader.terms,
-        &columns,
-        reader.words.named.as_slice(),
-    )?;
-    check_ranges(
-        reader.signature,
-        reader.terms,
-        &columns,
-        reader.words.others.as_slice(),
-    )?;
     found_by(alloc, reader.terms, pairs, &columns)
 }
 
@@ -118,6 +107,9 @@ fn found_by_clauses(
     gates: Vec<Vec<Literal>>,
 ) -> Result<Option<Round>, AllocError>
     requires once { StandOnce reader.texts.now }
+    requires facts { length ground.facts.now ≤ ground.vars }
+    requires own { All (λ c. AreBelow ground.vars c.items) clauses.items }
+    requires others { All (λ c. AreBelow ground.vars c.items) gates.items }
     requires words { IsWords reader.terms.now reader.words.now }
     ensures none { IfOk result (λ found. found ≡ None → IsNowhere reader.entry.signature.now
         reader.entry.arena.now reader.entry.terms.now reader.entry.words.now
@@ -150,7 +142,8 @@ fn found_for(
     spoken: &Spoken,
     clauses: GroundClauses,
 ) -> Result<Option<Round>, AllocError>
-    requires { IsWords spoken.now.made.terms spoken.now.words }
+    requires words { IsWords spoken.now.made.terms spoken.now.words }
+    requires below { AreBelowEnd clauses }
     ensures none { IfOk result (λ found. found ≡ None → (f : Formula) (terms : List GroundTerm)
         (closed : Bool) → IsOver signature.now [] f → IsNormal f → IsSpoken signature.now arena.now
         f terms closed spoken.now → IsGroundFor signature.now arena.now spoken.now clauses →

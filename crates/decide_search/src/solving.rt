@@ -1,14 +1,16 @@
 //! The search for values that meet clauses in which facts are as in a lawful model.
 
-ghost use Rattle.std.specs.Prelude.{◌≡◌, ◌+◌, ◌-◌, ◌<◌, ◌++◌, Bool, List, None, IfOk, IfSome, OnOk, length, map};
+ghost use Rattle.std.specs.Prelude.{◌≡◌, ◌+◌, ◌-◌, ◌^◌, ◌≤◌, ◌<◌, ◌++◌, ℕ, All, Bool, List, None, IfOk, IfSome, OnOk, length, map};
 ghost use Rattle.std.specs.List.{range_with_len};
 ghost use Rattle.decide_search.specs.Mixed.{Atom as AnyAtom, IsMixed, IsMixture};
-ghost use Rattle.decide_search.specs.Problem.{AreSolved, IsNowhere, IsPlainlyMixed, plit_of};
+ghost use Rattle.decide_search.specs.Problem.{AreBelow, AreSolved, IsNowhere, IsPlainlyMixed, plit_of};
+ghost use Rattle.decide_search.specs.Sides.{AreTakenBy};
+ghost use Rattle.solve_solver.specs.Clauses.{IsWithin};
 ghost use Rattle.decide_search.specs.Texts.{StandOnce};
 
 use crate::atoms::{Lit, atoms_for};
 use crate::halves::{halves_of, variable_at};
-use crate::problem::{are_below, are_taken, are_within, is_within, push_clauses, push_copies};
+use crate::problem::{push_clauses, push_copies};
 use crate::sides::Reader;
 use crate::{Mixture, search_mixed};
 use ground_gates::Literal;
@@ -21,11 +23,9 @@ use text_ast::Txt;
 
 /// The numbers from one on, so many.
 fn numbers_from(alloc: Global, first: u32, count: u32) -> Result<Vec<u32>, AllocError>
+    requires { first + count < 2 ^ 32 }
     ensures { IfOk result (λ numbers. numbers.items ≡ range_with_len first count) }
 {
-    let Some(_end) = first.checked_add(count) else {
-        return Err(AllocError);
-    };
     let mut numbers = Vec::new(alloc);
     for place in 0..count {
         numbers.push(first + place)?;
@@ -86,17 +86,14 @@ fn search_checked(
     requires texts { texts < TOO_MANY - 1 }
     requires vars { vars < TOO_MANY }
     requires one_each { length atoms ≡ vars }
+    requires taken { AreTakenBy terms texts atoms }
+    requires within { All (IsWithin vars) clauses.list }
+    requires first_in { IsWithin vars first.now }
     ensures none { IfOk result (λ found. found ≡ None → (assignment : List Bool) → IsMixed (terms +
         texts) (range_with_len terms texts) (terms + 1) vars clauses.list atoms assignment → ⊥) }
     ensures some { IfOk result (λ found. IfSome found (IsMixture vars clauses.list)) }
 {
     let fixed = numbers_from(alloc, terms, texts)?;
-    if !are_taken(terms + texts, terms + 1, &atoms) || !are_within(vars, &clauses) {
-        return Err(AllocError);
-    }
-    if !is_within(vars, first) {
-        return Err(AllocError);
-    }
     if clauses.len() >= TOO_MANY {
         return Err(AllocError);
     }
@@ -162,14 +159,26 @@ fn is_tried_first(fact: FactNode) -> bool {
     }
 }
 
+/// Puts the value at the end that is tried first of the fact at a place, if one is.
+fn try_first(fact: FactNode, place: usize, values: &mut Vec<PLit>) -> Result<(), AllocError>
+    ensures { OnOk result ((n : ℕ) → place < n → IsWithin n values.old.items →
+        IsWithin n values.new.items) }
+{
+    if !is_tried_first(fact) {
+        return Ok(());
+    }
+    let var = variable_at(place)?;
+    values.push(PLit { var, plus: true })?;
+    Ok(())
+}
+
 /// The values that are tried first.
-fn values_first(alloc: Global, facts: &[FactNode]) -> Result<Vec<PLit>, AllocError> {
+fn values_first(alloc: Global, facts: &[FactNode]) -> Result<Vec<PLit>, AllocError>
+    ensures { IfOk result (λ values. IsWithin (length facts.now) values.items) }
+{
     let mut values = Vec::new(alloc);
     for place in 0..facts.len() {
-        if is_tried_first(facts[place]) {
-            let var = variable_at(place)?;
-            values.push(PLit { var, plus: true })?;
-        }
+        try_first(facts[place], place, &mut values)?;
     }
     Ok(values)
 }
@@ -184,6 +193,11 @@ fn solve_with(
     halves: &[FactNode],
     links: &[Vec<PLit>],
 ) -> Result<Option<Mixture>, AllocError>
+    requires facts { length ground.facts.now ≤ ground.vars }
+    requires own { All (λ c. AreBelow ground.vars c.items) clauses.items }
+    requires others { All (λ c. AreBelow ground.vars c.items) gates.items }
+    requires links { All (IsWithin (ground.vars + length halves.now)) (map (λ c. c.items)
+        links.now) }
     ensures none { IfOk result (λ found. found ≡ None → (atoms : List AnyAtom) × IsPlainlyMixed
         reader.entry.signature.now reader.entry.arena.now reader.entry.terms.now
         reader.entry.words.now reader.entry.texts.now ground.entry.vars
@@ -196,16 +210,8 @@ fn solve_with(
     let terms = few_terms(reader.terms)?;
     let texts = few_texts(reader.texts)?;
     let total = few_variables(ground.vars, halves)?;
-    let own = clauses.as_slice();
-    let others = gates.as_slice();
-    if !are_below(ground.vars, own) || !are_below(ground.vars, others) {
-        return Err(AllocError);
-    }
     let clauses = clauses_for(alloc, clauses, gates, links)?;
     let atoms = atoms_for(alloc, reader, ground.vars, ground.facts, halves)?;
-    if atoms.len() != total as usize {
-        return Err(AllocError);
-    }
     let values = values_first(alloc, ground.facts)?;
     search_checked(
         alloc,
@@ -227,7 +233,10 @@ pub(crate) fn solve(
     clauses: Vec<Vec<Literal>>,
     gates: Vec<Vec<Literal>>,
 ) -> Result<Option<Mixture>, AllocError>
-    requires { StandOnce reader.texts.now }
+    requires once { StandOnce reader.texts.now }
+    requires facts { length ground.facts.now ≤ ground.vars }
+    requires own { All (λ c. AreBelow ground.vars c.items) clauses.items }
+    requires others { All (λ c. AreBelow ground.vars c.items) gates.items }
     ensures none { IfOk result (λ found. found ≡ None → IsNowhere reader.entry.signature.now
         reader.entry.arena.now reader.entry.terms.now reader.entry.words.now
         reader.entry.texts.now ground.entry.facts.now (map (λ c. c.items)

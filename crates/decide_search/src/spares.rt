@@ -1,5 +1,8 @@
 //! Texts for classes that have none of the formula's.
 
+ghost use Rattle.std.specs.Prelude.{◌≡◌, ◌≤◌, length};
+ghost use Rattle.std.specs.Str.{IsAscii};
+
 use crate::sides::place_of;
 use std::alloc::{AllocError, Global};
 use text_ast::Txt;
@@ -13,24 +16,31 @@ pub(crate) struct Spares {
     next: u32,
 }
 
+/// The text of a few letters.
+fn text_of_letters(bytes: Vec<u8>) -> Txt
+    requires ascii { IsAscii bytes.items }
+    requires few { length bytes.items ≤ 7 }
+    ensures { result ≡ bytes.items }
+{
+    Txt::of(bytes)
+}
+
 /// The letters of a number, the lowest first: a, b, and so on.
 fn letters(alloc: Global, number: u32) -> Result<Txt, AllocError> {
     let mut bytes = Vec::new(alloc);
     let mut rest = number;
-    'letters: for _ in 0..7 {
+    for _done in 0..7usize {
         bytes.push(b'a' + (rest % 26) as u8)?;
         rest /= 26;
         if rest == 0 {
-            break 'letters;
+            return Ok(text_of_letters(bytes));
         }
     }
-    match Txt::make(bytes) {
-        Some(text) => Ok(text),
-        None => Err(AllocError),
-    }
+    Ok(text_of_letters(bytes))
 }
 
-/// The first letters from a number on that are none of some texts, and the number after theirs.
+/// The first letters from a number on that are none of some texts, and the number after theirs. Four
+/// thousand million texts count as memory that is not there.
 fn unused(alloc: Global, texts: &[Txt], first: u32) -> Result<(Txt, u32), AllocError> {
     for number in first..u32::MAX {
         let text = letters(alloc, number)?;

@@ -14,8 +14,8 @@ struct Call {
     argument: u32,
 }
 
-/// The function at an argument that a term is, if it gives a record.
-fn call_of(reader: Reader<'_>, classes: &[u32], id: u32) -> Option<Call> {
+/// The function at an argument that a term is, if it gives a record and the argument is there.
+fn call_of(reader: Reader<'_>, there: &[bool], classes: &[u32], id: u32) -> Option<Call> {
     if id as usize >= reader.terms.len() {
         return None;
     }
@@ -24,6 +24,9 @@ fn call_of(reader: Reader<'_>, classes: &[u32], id: u32) -> Option<Call> {
         reader.terms.node(id),
     ) {
         (Range::Rec(_), TermNode::Field(function, t)) => {
+            if !there.get(t as usize).copied()? {
+                return None;
+            }
             let argument = classes.get(t as usize).copied()?;
             Some(Call { function, argument })
         }
@@ -44,16 +47,18 @@ fn first_class(
     Ok(class)
 }
 
-/// For each call among terms that name records, the class of the first.
+/// For each call among terms that name records, the class of the first. What has an argument that is
+/// not there is not there either, and its class says nothing.
 fn named_calls(
     alloc: Global,
     reader: Reader<'_>,
+    there: &[bool],
     classes: &[u32],
 ) -> Result<IndexMap<Call, u32>, AllocError> {
     let mut firsts = IndexMap::new(alloc);
     for id in reader.words.named.as_slice() {
         let class = classes.get(*id as usize).copied();
-        if let (Some(call), Some(class)) = (call_of(reader, classes, *id), class) {
+        if let (Some(call), Some(class)) = (call_of(reader, there, classes, *id), class) {
             first_class(&mut firsts, call, class)?;
         }
     }
@@ -65,13 +70,14 @@ fn named_calls(
 pub(crate) fn with_unnamed(
     alloc: Global,
     reader: Reader<'_>,
+    there: &[bool],
     classes: &[u32],
 ) -> Result<Vec<u32>, AllocError> {
-    let mut firsts = named_calls(alloc, reader, classes)?;
+    let mut firsts = named_calls(alloc, reader, there, classes)?;
     let mut all = Vec::from_slice(alloc, classes)?;
     for id in reader.words.others.as_slice() {
         let place = *id as usize;
-        if let (Some(call), true) = (call_of(reader, classes, *id), place < all.len()) {
+        if let (Some(call), true) = (call_of(reader, there, classes, *id), place < all.len()) {
             all[place] = first_class(&mut firsts, call, all[place])?;
         }
     }

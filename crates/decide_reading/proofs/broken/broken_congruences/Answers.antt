@@ -20,5 +20,5 @@ returns-then-are_none-clause-none c = λ none g table is.
     let P : List ℕ → Type 0 = λ ids. (values : GroundTerm → Option SVal) → HaveValues c.args.terms.now c.args.found.now values → AreFunctional values (terms_at c.args.terms.now ids) in
     let Q : List PairNode → Type 0 = λ ps. (places : PairKey → Option ℕ) × ((k : ℕ) (pair : PairNode) → slice_get ps k ≡ Some pair → IsPairSettled c.args.terms.now c.args.found.now places k pair) in
     congruent c.args.terms.now c.args.words.now c.args.found.now g table is
-    (subst P (c.as_slice.ensures.value ∙ c.in_ok-told.ensures) (c.in_ok-rivals.ensures (sym c.as_slice-3.ensures.value ∙ c.are_none.ensures.terms c.if-are_none.true)))
-    (subst Q c.as_slice-2.ensures.value (c.in_ok-pair_rivals.ensures (sym c.as_slice-4.ensures.value ∙ c.are_none.ensures.pairs c.if-are_none.true)))
+    (subst P (c.as_slice.ensures.value ∙ c.in_ok-told.ensures) (c.in_ok-rivals.ensures.none (sym c.as_slice-3.ensures.value ∙ c.are_none.ensures.terms c.if-are_none.true)))
+    (subst Q c.as_slice-2.ensures.value (c.in_ok-pair_rivals.ensures.none (sym c.as_slice-4.ensures.value ∙ c.are_none.ensures.pairs c.if-are_none.true)))

@@ -31,7 +31,7 @@ returns-clause-some c =
     found_as g nodes f ts closed s ground over normal is gr k.0 x c.len-nodes.ensures.placed c.len-terms.ensures.placed
     c.len-terms.ensures.once facts _ c.as_slice-facts.ensures.value refl k.1 k.2.0 k.2.1)
     (λ more k gr.
-    broken_as g nodes s ground gr k.0 c.len-nodes.ensures.placed c.len-terms.ensures.placed c.len-terms.ensures.once c.requires facts all more
+    broken_as g nodes s ground gr k.0 c.len-nodes.ensures.placed c.len-terms.ensures.placed c.len-terms.ensures.once c.requires.words facts all more
     c.as_slice-facts.ensures.value refl k.1 k.2)
     k) h)
     c.found_by_clauses.ensures.some

@@ -7,7 +7,6 @@ returns c =
     ok_too c.found_by.result _ _
     (λ found h.
     columns_as c.args.reader.signature.now c.args.reader.arena.now c.args.reader.terms.now c.args.reader.words.now c.args.ground.facts.now
-    c.args.mixture.now.values.items found c.in_ok-columns.columns c.args.pairs.now c.as_slice.result.now c.as_slice-2.result.now c.as_slice-3.result.now
-    c.requires.pairs c.as_slice.ensures.value c.as_slice-2.ensures.value c.as_slice-3.ensures.value c.in_ok-check_facts.ensures c.in_ok-check_ranges.ensures
-    c.in_ok-check_ranges-2.ensures h)
+    c.args.mixture.now.values.items found c.in_ok-columns.columns c.args.pairs.now c.as_slice.result.now
+    c.requires.pairs c.as_slice.ensures.value c.requires.words c.in_ok-check_facts.ensures c.in_ok-columns.ensures h)
     c.found_by.ensures

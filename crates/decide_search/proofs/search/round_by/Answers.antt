@@ -3,7 +3,16 @@ use Rattle.decide_search.specs.Tabled.{AreNewCongruences, IsGroundFor}
 use Rattle.decide_search.proofs.Glue.{ground_for}
 use Rattle.decide_search.proofs.Solved.{ok_too, some_too, round_too}
 use Rattle.ground_problem.specs.Facts.{clauses_at}
+use Rattle.ground_problem.specs.Facts.{fact_at}
+use Rattle.decide_search.proofs.Taken.{ground_below}
 use Rattle.decide_search.proofs.search.round_by.Goals as goal
+
+pub found_for-requires-clause-below : goal.found_for-requires-clause-below
+found_for-requires-clause-below c =
+    let ground = c.in_ok-clauses.clauses in
+    let s = c.args.spoken.now in
+    let (facts, own, others) = ground_below (λ c. c.items) (fact_at c.args.arena.now s.made.terms) ground.facts.items s.made c.args.arena.now _ ground.end ground.clauses.items ground.gates.items c.in_ok-clauses.ensures in
+    record { facts = facts; clauses = own; gates = others }
 
 pub returns-clause-none : goal.returns-clause-none
 returns-clause-none c =
