@@ -1,0 +1,4 @@
+pub mod Differences
+pub mod Ordered
+pub mod Putting
+pub mod Storing

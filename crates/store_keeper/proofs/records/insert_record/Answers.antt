@@ -1,0 +1,22 @@
+use Rattle.std.proofs.Common.{◌≡◌, ap, ◌∙◌, arith, length, map}
+use Rattle.std.proofs.lemmas.List.{length-map}
+use Rattle.type_schema.specs.SchemaViews.{field_info_of}
+use Rattle.data_records.specs.Views.{record_data, slot_data, value_data}
+use Rattle.store_keeper.specs.Changes.{values_of}
+use Rattle.store_keeper.proofs.Putting.{shaped-length}
+use Rattle.store_keeper.proofs.records.insert_record.Goals as goal
+
+pub insert-requires : goal.insert-requires
+insert-requires c =
+    let values = c.as_slice-2.result.now in
+    let slots = (record_data c.args.made.now).slots in
+    let fields = map field_info_of c.args.info.now.fields in
+    let filled : map value_data values ≡ values_of slots
+    = ap (map value_data) c.as_slice-2.ensures.value ∙ c.in_ok-values.ensures ∙ ap (λ items. values_of (map slot_data items)) c.as_slice.ensures in
+    omega (
+      arith,
+      shaped-length fields (values_of slots) c.requires.admitted.shaped,
+      length-map c.args.info.now.fields field_info_of,
+      length-map values value_data,
+      ap length filled,
+    )
