@@ -24,8 +24,6 @@ mod memory_keepers;
 mod records;
 mod refusing_keepers;
 mod stored;
-#[cfg(test)]
-mod tests;
 
 pub use keeper::{KeepCall, KeepErr, Keeper};
 pub use laws::renumbered_are_settled;

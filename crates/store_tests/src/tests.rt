@@ -1,8 +1,10 @@
 //! Keepers that hold nothing, and those that refuse.
 
-use crate::{FailingKeeper, KeepCall, KeepErr, Keeper, MemKeeper, OutOfMemoryKeeper, SureKeeper};
 use std::alloc::Global;
 use std::test::Fail;
+use store_keeper::{
+    FailingKeeper, KeepCall, KeepErr, Keeper, MemKeeper, OutOfMemoryKeeper, SureKeeper,
+};
 
 // A word for what is loaded.
 fn word<K: Keeper>(alloc: Global, keeper: &mut K) -> &'static str {
