@@ -2,8 +2,7 @@
 
 ghost use Rattle.std.specs.Prelude.{◌≡◌, ◌↔◌, ◌<◌, ◌≤◌, [], ◌∷◌, ◌++◌, length, IsTrue, MatchOption};
 ghost use Rattle.std.specs.Prelude.{All, AllPairs, ◌≢◌, IfOk, IfSome, None, OnOk, OnErr};
-ghost use Rattle.std.specs.Bool.{OnFalse, OnTrue};
-ghost use Rattle.certify_clauses.specs.Paths.{IsFalseOn, pending, value_on};
+ghost use Rattle.certify_clauses.specs.Paths.{IsFalseOn, value_on};
 
 use crate::literal::Literal;
 use std::alloc::{AllocError, Global};
@@ -96,22 +95,5 @@ impl Path {
         let last = self.literals.pop()?;
         self.values[last.var as usize] = None;
         Some(last)
-    }
-
-    /// Goes to the path that comes next: takes the last literals back that are negative, and then
-    /// turns the last one into its opposite. False where no path is left; there is then no literal.
-    pub fn turn(&mut self) -> Result<bool, AllocError>
-        ensures vars { self.new.vars ≡ self.old.vars }
-        ensures turned { IfOk result (λ turned. OnTrue turned (pending self.old.literals
-            ≡ self.new.literals ∷ pending self.new.literals)) }
-        ensures none { IfOk result (λ turned. OnFalse turned (pending self.old.literals ≡ [])) }
-    {
-        while let Some(last) = self.pop() {
-            if last.plus {
-                self.push(last.opposite())?;
-                return Ok(true);
-            }
-        }
-        Ok(false)
     }
 }
