@@ -1,3 +1,4 @@
+pub mod BareTexts
 pub mod Folds
 pub mod JudgedTexts
 pub mod Nesting

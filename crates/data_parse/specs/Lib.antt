@@ -1,3 +1,4 @@
+pub mod Bare
 pub mod Public
 pub mod Reads
 pub mod Refused

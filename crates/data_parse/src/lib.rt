@@ -7,11 +7,13 @@
 //! | module | holds |
 //! |---|---|
 //! | `values`, `lists` | values, which nest |
+//! | `bare` | texts without a backslash, as most are |
 //! | `rows` | fields, records and tables |
 //! | `texts` | whole texts |
 //! | `laws` | what holds of any text |
 #![tactic(auto)]
 
+mod bare;
 mod laws;
 mod lists;
 mod rows;

@@ -11,6 +11,7 @@ ghost use Rattle.text_tree.specs.ExprGrammar as tree;
 ghost use Rattle.text_tree.specs.Forms.{NotGrammar, TooDeep, first};
 ghost use Rattle.data_parse.specs.Reads.{reading};
 
+use crate::bare::text_of;
 use data_tree::{Lit, WrittenId};
 use std::alloc::Global;
 use text_lexer::TokenKind;
@@ -155,7 +156,7 @@ impl Values {
         ensures { Reads (reading self.now.levels form.text cursor.old) result cursor.new }
     {
         let token = cursor.literal()?;
-        let text = token.text(self.alloc)?;
+        let text = text_of(self.alloc, &token)?;
         Ok(Lit::Str(text, token.at()))
     }
 

@@ -25,6 +25,7 @@ pub mod Neat
 pub mod Needed
 pub mod OneElsewhere
 pub mod Parts
+pub mod Plain
 pub mod PolicyForms
 pub mod Printed
 pub mod Ranks

@@ -1,5 +1,5 @@
 -- What a canonical spelling is written in: lexemes, with the blanks between them.
-use Rattle.std.specs.Prelude.{ℕ, ℤ, pos, negsuc, suc, ◌/◌, ◌%◌, ◌||◌, ◌==◌, nat_lt, if◌then◌else◌, List, [], ◌∷◌, ◌++◌, codes}
+use Rattle.std.specs.Prelude.{ℕ, ℤ, pos, negsuc, suc, ◌/◌, ◌%◌, ◌||◌, ◌==◌, nat_lt, Bool, not, if◌then◌else◌, List, [], ◌∷◌, ◌++◌, codes}
 use Rattle.std.specs.Char.{digit_char}
 use Rattle.std.specs.Fmt.{decimal}
 use Rattle.std.specs.List.{flat_map}
@@ -57,6 +57,10 @@ abbrev pub escape : ℕ → List ℕ
 escape b =
     if b == 34 then codes "\\\"" else (if b == 92 then codes "\\\\" else (if b == 10 then codes "\\n" else (if b == 13 then codes "\\r" else (if b == 9 then codes "\\t"
     else (if nat_lt b 32 || b == 127 then codes "\\x" ++ digit_char (b / 16) ∷ digit_char (b % 16) ∷ [] else b ∷ [])))))
+
+-- whether a byte is written as itself
+abbrev pub is_plain : ℕ → Bool
+is_plain b = not (nat_lt b 32 || b == 34 || b == 92 || b == 127)
 
 abbrev pub quoted : List ℕ → List ℕ
 quoted bytes = codes "\"" ++ (flat_map escape bytes ++ codes "\"")

@@ -2,7 +2,9 @@
 
 ghost use Rattle.std.specs.Char.{digit_char};
 ghost use Rattle.std.specs.Prelude.{◌≡◌, ◌<◌, ◌++◌, [], OnOk};
-ghost use Rattle.text_print.specs.Marks.{escape, mark_bytes, number, quoted, text_of_marks};
+ghost use Rattle.std.specs.List.{flat_map, list_all};
+ghost use Rattle.text_print.specs.Marks.{escape, is_plain, mark_bytes, number, quoted};
+ghost use Rattle.text_print.specs.Marks.{text_of_marks};
 
 use std::alloc::{AllocError, Global};
 use std::marker::Model;
@@ -52,10 +54,29 @@ impl Printer {
         ensures { OnOk result (self.new ≡ self.old ++ quoted bytes.now) }
     {
         self.put(b"\"")?;
+        self.put_escaped(bytes)?;
+        self.put(b"\"")
+    }
+
+    /// Writes what stands between the quotes of a text. Most texts stand for themselves.
+    #[tactic(auto, using(crate::proofs::Plain::plain_text))]
+    fn put_escaped(&mut self, bytes: &[u8]) -> Result<(), AllocError>
+        ensures { OnOk result (self.new ≡ self.old ++ flat_map escape bytes.now) }
+    {
+        if are_plain(bytes) {
+            self.put(bytes)
+        } else {
+            self.escape_each(bytes)
+        }
+    }
+
+    /// Writes each byte of a text.
+    fn escape_each(&mut self, bytes: &[u8]) -> Result<(), AllocError>
+        ensures { OnOk result (self.new ≡ self.old ++ flat_map escape bytes.now) }
+    {
         for byte in bytes {
             self.escaped(*byte)?;
         }
-        self.put(b"\"")?;
         Ok(())
     }
 
@@ -83,6 +104,20 @@ impl Printer {
     {
         self.bytes
     }
+}
+
+/// Whether a byte is written as itself between quotes.
+fn is_plain(byte: u8) -> bool
+    ensures { result ≡ is_plain byte }
+{
+    !(byte < 32 || byte == b'"' || byte == b'\\' || byte == 127)
+}
+
+/// Whether each byte is written as itself between quotes.
+fn are_plain(bytes: &[u8]) -> bool
+    ensures { result ≡ list_all is_plain bytes.now }
+{
+    bytes.iter().all(|byte| is_plain(*byte))
 }
 
 /// The hexadecimal digit of this value.
