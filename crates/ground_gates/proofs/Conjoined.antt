@@ -9,15 +9,17 @@ use Rattle.ground_gates.specs.declared.gate.Gate.{Gate as AnyGate}
 use Rattle.ground_gates.specs.declared.gate.Gate.TheVariants.{Yes, No, Input as Leaf, Both, Either}
 use Rattle.ground_gates.specs.declared.gate.Literal.{Literal}
 use Rattle.ground_gates.specs.Gates.{literal_value, gate_value, values_of, ArePlaced}
-use Rattle.ground_gates.specs.Clauses.{Meets, inputs_by, meets_clause}
+use Rattle.ground_gates.specs.Clauses.{HasVarsBelow, HaveVarsBelow, IsVarBelow, Meets, inputs_by, meets_clause}
 use Rattle.ground_gates.proofs.Values.{value_of-at}
 use Rattle.ground_gates.specs.declared.board.Board.{Board}
 use Rattle.ground_gates.specs.Literals.{is_true, is_false, is_none}
 use Rattle.ground_gates.specs.Meaning.{IsSoundAtInputs, truth, is_asked, under}
-use Rattle.ground_gates.specs.Names.{NamesView}
-use Rattle.ground_gates.specs.Said.{clauses_in, HasGate, Goes, IsPlacedFor, Says, all_under}
+use Rattle.ground_gates.specs.Names.{NamesView, end_of}
+use Rattle.ground_gates.specs.declared.names.Owner.TheVariants.{Gate}
+use Rattle.ground_gates.specs.Said.{AreInputsPlaced, clauses_in, HasGate, Goes, IsPlacedFor, Says, all_under}
 use Rattle.ground_gates.proofs.Going.{grows_same, goes_as, goes_beside, goes_by_name, goes_named, goes_trans, meets_more}
 use Rattle.ground_gates.proofs.Disjoined.{same_board, all_at_front, all_at_last}
+use Rattle.ground_gates.proofs.VarsBelow.{clauses_each, clauses_more, clauses_one, end_rises, facts_at, named_below, placed_later, var_later, vars_both, vars_false, vars_none, vars_one}
 use Rattle.ground_gates.proofs.PartLaws.{all_one, negations, or_comm, or_false}
 
 -- a clause that is to be met where a variable is true
@@ -51,12 +53,15 @@ each_clause whole w (x ∷ facts) =
 
 module _ (gates : List AnyGate) (inputs : List (List ℕ)) (j : ℕ) (a b : Board) where
   -- some clauses say it
-  pub goes_all : (more : List (List Literal)) (p : (ℕ → Bool) → Bool) → b.names ≡ a.names → clauses_in b ≡ clauses_in a ++ more → ((w : ℕ → Bool) → p w ≡ list_all (meets_clause w) more)
-      → Says gates inputs j a b p
-  goes_all more p names clauses e = record {
+  pub goes_all : (more : List (List Literal)) (p : (ℕ → Bool) → Bool) → b.names ≡ a.names → clauses_in b ≡ clauses_in a ++ more → HaveVarsBelow (end_of a.names) more
+      → ((w : ℕ → Bool) → p w ≡ list_all (meets_clause w) more) → Says gates inputs j a b p
+  goes_all more p names clauses vars e = record {
     names = grows_same j a.names b.names names;
     more = more;
     whole = clauses;
+    within = λ before.
+        let P : NamesView → Type 0 = λ names. HaveVarsBelow (end_of names) (clauses_in b) in
+        subst P (sym names) (clauses_more (clauses_in a) more (clauses_in b) (end_of a.names) (end_of a.names) clauses (omega arith) vars before);
     inputs_too = λ w met own. let P : NamesView → Type 0 = λ n. IsSoundAtInputs gates inputs w n in subst P (sym names) own;
     sound = λ w met below own on.
         e w
@@ -69,29 +74,31 @@ module _ (gates : List AnyGate) (inputs : List (List ℕ)) (j : ℕ) (a b : Boar
         );
   }
 
-  pub goes_one : (clause : List Literal) (p : (ℕ → Bool) → Bool) → b.names ≡ a.names → clauses_in b ≡ clauses_in a ++ clause ∷ [] → ((w : ℕ → Bool) → p w ≡ meets_clause w clause)
-      → Says gates inputs j a b p
-  goes_one clause p names clauses e = goes_all (clause ∷ []) p names clauses (λ w. e w ∙ and_one (meets_clause w clause))
+  pub goes_one : (clause : List Literal) (p : (ℕ → Bool) → Bool) → b.names ≡ a.names → clauses_in b ≡ clauses_in a ++ clause ∷ [] → HasVarsBelow (end_of a.names) clause
+      → ((w : ℕ → Bool) → p w ≡ meets_clause w clause) → Says gates inputs j a b p
+  goes_one clause p names clauses vars e = goes_all (clause ∷ []) p names clauses (clauses_one (end_of a.names) clause vars) (λ w. e w ∙ and_one (meets_clause w clause))
     where
       and_one : (x : Bool) → x ≡ (x && true)
       and_one true = refl
       and_one false = refl
 
   -- what an input's literal says
-  pub says_input : (whole : Option ℕ) (l : Literal) → l.plus ≡ true → b.names ≡ a.names
+  pub says_input : (whole : Option ℕ) (l : Literal) → IsVarBelow (end_of a.names) whole → AreInputsPlaced inputs a → l.plus ≡ true → b.names ≡ a.names
       → clauses_in b ≡ clauses_in a ++ map (λ x. is_none whole ++ is_true x ∷ []) (slice_index_or inputs l.var [])
       → Says gates inputs j a b (λ w. under whole w (literal_value (inputs_by inputs w) l))
-  says_input whole l on names clauses =
+  says_input whole l variable placed on names clauses =
       goes_all (map (λ x. is_none whole ++ is_true x ∷ []) (slice_index_or inputs l.var [])) (λ w. under whole w (literal_value (inputs_by inputs w) l)) names clauses
+      (clauses_each (end_of a.names) (is_none whole) (slice_index_or inputs l.var []) (vars_none (end_of a.names) whole variable) (facts_at inputs a l.var placed))
       (λ w.
       ap (λ p. under whole w (cond p (inputs_by inputs w l.var) (not (inputs_by inputs w l.var)))) on ∙ sym (each_clause whole w (slice_index_or inputs l.var [])))
 
-  pub says_no_input : (whole : Option ℕ) (l : Literal) → l.plus ≡ false → b.names ≡ a.names
+  pub says_no_input : (whole : Option ℕ) (l : Literal) → IsVarBelow (end_of a.names) whole → AreInputsPlaced inputs a → l.plus ≡ false → b.names ≡ a.names
       → clauses_in b ≡ clauses_in a ++ (is_none whole ++ map is_false (slice_index_or inputs l.var [])) ∷ []
       → Says gates inputs j a b (λ w. under whole w (literal_value (inputs_by inputs w) l))
-  says_no_input whole l off names clauses =
+  says_no_input whole l variable placed off names clauses =
       let facts : List ℕ = slice_index_or inputs l.var [] in
       goes_one (is_none whole ++ map is_false facts) (λ w. under whole w (literal_value (inputs_by inputs w) l)) names clauses
+      (vars_both (end_of a.names) (is_none whole) (map is_false facts) (vars_none (end_of a.names) whole variable) (vars_false (end_of a.names) facts (facts_at inputs a l.var placed)))
       (λ w.
       ap (λ p. under whole w (cond p (inputs_by inputs w l.var) (not (inputs_by inputs w l.var)))) off
       ∙ (ap (λ b. under whole w b) (sym (negations w facts)) ∙ sym (denied_clause whole (map is_false facts) w)))
@@ -115,11 +122,11 @@ module _ (gates : List AnyGate) (inputs : List (List ℕ)) (j k : ℕ) (placed :
         same_board gates inputs j a (all_under gates inputs whole (k ∷ stack)) (all_under gates inputs whole stack)
         (λ w. ap (λ b. under whole w (b && list_all (truth gates inputs w) stack)) (sym (by_gate Yes at w)))
 
-    pub says_no : slice_get gates k ≡ Some No → b.names ≡ a.names → clauses_in b ≡ clauses_in a ++ is_none whole ∷ []
+    pub says_no : slice_get gates k ≡ Some No → IsVarBelow (end_of a.names) whole → b.names ≡ a.names → clauses_in b ≡ clauses_in a ++ is_none whole ∷ []
         → Goes gates inputs j a b (all_under gates inputs whole (k ∷ stack)) (all_under gates inputs whole stack)
-    says_no at names clauses =
+    says_no at variable names clauses =
         says_beside gates inputs j a b whole k stack (λ w. false) (λ w. by_gate No at w)
-        (goes_one gates inputs j a b (is_none whole) (λ w. under whole w false) names clauses (λ w. none w whole))
+        (goes_one gates inputs j a b (is_none whole) (λ w. under whole w false) names clauses (vars_none (end_of a.names) whole variable) (λ w. none w whole))
       where
         none : (w : ℕ → Bool) (whole : Option ℕ) → under whole w false ≡ meets_clause w (is_none whole)
         none w None = refl
@@ -161,15 +168,18 @@ module _ (gates : List AnyGate) (inputs : List (List ℕ)) (j k : ℕ) (placed :
       subst P (sym e) (All-append B (stack ++ y ∷ []) (x ∷ []) (All-append B stack (y ∷ []) all (all_one B y (omega (arith, second, le)))) (all_one B x (omega (arith, first, le))))
 
 -- a gate, by its variable
-pub says_named : (gates : List AnyGate) (inputs : List (List ℕ)) (j : ℕ) (a b c : Board) (whole : Option ℕ) (k x : ℕ) → k < j → HasGate k a b x → c.names ≡ b.names
+pub says_named : (gates : List AnyGate) (inputs : List (List ℕ)) (j : ℕ) (a b c : Board) (whole : Option ℕ) (k x : ℕ) → k < j → IsVarBelow (end_of a.names) whole → HasGate k a b x → c.names ≡ b.names
     → clauses_in c ≡ clauses_in b ++ (is_none whole ++ is_true x ∷ []) ∷ [] → Says gates inputs j a c (λ w. under whole w (truth gates inputs w k))
-says_named gates inputs j a b c whole k x lt h names clauses =
+says_named gates inputs j a b c whole k x lt variable h names clauses =
+    let end = end_of b.names in
+    let more = var_later (end_of a.names) end whole (end_rises j a.names b.names (h.named.grows j lt)) variable in
     let asked : (ℕ → Bool) → Bool = λ w. under whole w (truth gates inputs w k) in
     let off : (ℕ → Bool) → Bool = λ w. not (is_asked whole w) in
     let turned : (ℕ → Bool) → Bool = λ w. truth gates inputs w k || off w in
     let named = goes_as gates inputs j a b asked asked asked turned (λ w. refl) (λ w. or_comm (truth gates inputs w k) (off w)) (goes_named gates inputs j a b k x asked lt h) in
     let by_name = goes_by_name gates inputs j a b k x asked off lt h.named.is named in
     let last = goes_one gates inputs j b c (is_none whole ++ is_true x ∷ []) (λ w. w x || off w) names clauses
+    (vars_both end (is_none whole) (is_true x ∷ []) (vars_none end whole more) (vars_one end (is_true x) (named_below b.names (Gate k) x h.named.is)))
     (λ w. or_comm (w x) (off w) ∙ (ap (λ b. off w || b) (sym (or_false (w x))) ∙ sym (denied_clause whole (is_true x ∷ []) w))) in
     goes_trans gates inputs j a b c asked (λ w. w x || off w) (λ w. true) by_name last
 
@@ -181,7 +191,8 @@ module _ (gates : List AnyGate) (inputs : List (List ℕ)) (j : ℕ) (whole : Op
   pub record AreSaid (start : Board) (first : List ℕ) (now : Board) (stack : List ℕ) : Type 0 where
     pub goes : Goes gates inputs j start now (of first) (of stack)
     pub below : All (λ k. k < j) stack
-    pub placed : IsPlacedFor gates j now
+    pub placed : IsPlacedFor gates inputs j now
+    pub variable : IsVarBelow (end_of now.names) whole
 
   popped_all : (stack new : List ℕ) (k : ℕ) → stack ≡ new ++ k ∷ [] → (w : ℕ → Bool) → of stack w ≡ of (k ∷ new) w
   popped_all stack new k e w =
@@ -201,7 +212,8 @@ module _ (gates : List AnyGate) (inputs : List (List ℕ)) (j : ℕ) (whole : Op
     goes = goes_trans gates inputs j start now new (of first) (of stack) (of later) h.goes
         (goes_as gates inputs j now new (of (k ∷ mid)) (of stack) (of later) (of later) (popped_all stack mid k e) (λ w. refl) step);
     below = below;
-    placed = (h.placed.0, step.names.places ∙ h.placed.1);
+    placed = placed_later gates inputs j j now new step.names h.placed;
+    variable = var_later (end_of now.names) (end_of new.names) whole (end_rises j now.names new.names step.names) h.variable;
   }
 
   pub said_popped : (stack mid : List ℕ) (k : ℕ) → stack ≡ mid ++ k ∷ [] → All (λ k. k < j) stack → (k < j) × All (λ k. k < j) mid

@@ -9,7 +9,7 @@ use Rattle.ground_gates.specs.declared.gate.Gate.{Gate as AnyGate}
 use Rattle.ground_gates.specs.declared.gate.Gate.TheVariants.{Yes, No, Input as Leaf, Either}
 use Rattle.ground_gates.specs.declared.gate.Literal.{Literal}
 use Rattle.ground_gates.specs.Gates.{literal_value, gate_value, values_of, ArePlaced}
-use Rattle.ground_gates.specs.Clauses.{HaveInputsBelow, inputs_by, meets_clause}
+use Rattle.ground_gates.specs.Clauses.{HasVarsBelow, HaveInputsBelow, inputs_by, meets_clause}
 use Rattle.ground_gates.specs.declared.board.Board.{Board}
 use Rattle.ground_gates.specs.declared.parts.Parts.{Parts}
 use Rattle.ground_gates.specs.Literals.{is_true, is_none}
@@ -18,6 +18,9 @@ use Rattle.ground_gates.specs.Parted.{AreParts, IsWithInput, IsWithGates}
 use Rattle.ground_gates.proofs.Values.{value_of-at}
 use Rattle.ground_gates.specs.Said.{HasGate, HasInput, IsPlacedFor, Goes}
 use Rattle.ground_gates.proofs.Going.{goes_as, goes_named, goes_by_name, goes_by_input, goes_same, goes_trans}
+use Rattle.ground_gates.specs.declared.names.Owner.{Owner}
+use Rattle.ground_gates.specs.Names.{Grows, IsNamed, NamesView, end_of}
+use Rattle.ground_gates.proofs.VarsBelow.{end_rises, named_below, placed_later, vars_both, vars_later, vars_one}
 use Rattle.ground_gates.proofs.PartLaws.{with_literals, with_input, with_gate, with_gates, or_false, or_comm, all_one}
 
 module _ (gates : List AnyGate) (inputs : List (List ℕ)) (j : ℕ) (a b : Board) (old new : Parts) where
@@ -107,10 +110,8 @@ module _ (gates : List AnyGate) (inputs : List (List ℕ)) (j : ℕ) (start : Bo
   pub record IsApart (now : Board) (p : Parts) : Type 0 where
     pub goes : Goes gates inputs j start now (λ w. some_part gates inputs w first) (λ w. some_part gates inputs w p)
     pub are : AreParts inputs j p
-    pub placed : IsPlacedFor gates j now
-
-  placed_later : (a b : Board) (p q : (ℕ → Bool) → Bool) → Goes gates inputs j a b p q → IsPlacedFor gates j a → IsPlacedFor gates j b
-  placed_later a b p q h (few, places) = (few, h.names.places ∙ places)
+    pub placed : IsPlacedFor gates inputs j now
+    pub within : HasVarsBelow (end_of now.names) p.literals.items
 
   -- a gate is taken from the stack
   pub popped : (old new : Parts) (k : ℕ) → new.literals ≡ old.literals → new.inputs ≡ old.inputs → old.stack.items ≡ new.stack.items ++ k ∷ []
@@ -147,13 +148,14 @@ module _ (gates : List AnyGate) (inputs : List (List ℕ)) (j : ℕ) (start : Bo
     in_words rest step = goes_as gates inputs j now new asked of_now rest rest (λ w. sym (same w)) (λ w. refl) step
 
     -- one part gives way to others, or says that the whole is always true
-    pub apart_on : Goes gates inputs j now new asked (λ w. some_part gates inputs w r) → AreParts inputs j r → IsApart new r
-    apart_on step are =
+    pub apart_on : Goes gates inputs j now new asked (λ w. some_part gates inputs w r) → AreParts inputs j r → HasVarsBelow (end_of new.names) r.literals.items → IsApart new r
+    apart_on step are within =
         let rest : (ℕ → Bool) → Bool = λ w. some_part gates inputs w r in
         record {
           goes = goes_trans gates inputs j start now new of_first of_now rest h.goes (in_words rest step);
           are = are;
-          placed = placed_later now new of_now rest (in_words rest step) h.placed;
+          placed = placed_later gates inputs j j now new step.names h.placed;
+          within = within;
         }
 
     pub apart_always : Goes gates inputs j now new asked (λ w. true) → Goes gates inputs j start new of_first (λ w. true)
@@ -243,3 +245,15 @@ first_parts gates inputs whole a b p l i s w =
     by : (whole : Option ℕ) (x y : Bool) → (meets_clause w (is_none whole) || (y || (x || false))) ≡ under whole w (x || y)
     by None x y = ap (λ b. y || b) (or_false x) ∙ or_comm y x
     by (Some v) x y = ap (λ b. b || (y || (x || false))) (or_false (not (w v))) ∙ ap (λ b. not (w v) || b) (ap (λ b. y || b) (or_false x) ∙ or_comm y x)
+
+-- a literal more, of a variable that was named, or of one below the base
+pub literals_named : (j : ℕ) (old new : NamesView) (o : Owner) (x : ℕ) (ls more : List Literal) → Grows j old new → IsNamed new o x → more ≡ ls ++ is_true x ∷ [] → HasVarsBelow (end_of old) ls → HasVarsBelow (end_of new) more
+literals_named j old new o x ls more grows is e before =
+    let P : List Literal → Type 0 = λ ls. HasVarsBelow (end_of new) ls in
+    subst P (sym e)
+    (vars_both (end_of new) ls (is_true x ∷ []) (vars_later (end_of old) (end_of new) ls (end_rises j old new grows) before) (vars_one (end_of new) (is_true x) (named_below new o x is)))
+
+pub literals_one : (n x : ℕ) (ls more : List Literal) → x < n → more ≡ ls ++ is_true x ∷ [] → HasVarsBelow n ls → HasVarsBelow n more
+literals_one n x ls more lt e before =
+    let P : List Literal → Type 0 = λ ls. HasVarsBelow n ls in
+    subst P (sym e) (vars_both n ls (is_true x ∷ []) before (vars_one n (is_true x) lt))

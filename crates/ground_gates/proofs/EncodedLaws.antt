@@ -3,22 +3,22 @@ use Rattle.std.proofs.Common.{◌≡◌, ℕ, suc, zero, ◌<◌, ◌≤◌, ◌
 use Rattle.std.specs.Prelude.{nat_lt}
 use Rattle.std.specs.List.{list_all}
 use Rattle.std.proofs.lemmas.Bool.Decides.{nat_tests}
-use Rattle.std.proofs.lemmas.List.Elements.{All-contains}
-use Rattle.form_terms.proofs.Listed.{in_map}
 use Rattle.form_terms.proofs.Lists.{Contains-none}
 use Rattle.ground_gates.specs.declared.gate.Gate.{Gate as AnyGate}
 use Rattle.ground_gates.specs.declared.gate.Gate.TheVariants.{Yes, No, Input as Leaf, Both, Either}
 use Rattle.ground_gates.specs.declared.gate.Literal.{Literal}
 use Rattle.ground_gates.specs.Gates.{literal_value, gate_value, values_of, value_of}
-use Rattle.ground_gates.specs.Clauses.{Meets, IsEncoding, inputs_by}
+use Rattle.ground_gates.specs.Clauses.{AreFactsBelow, HaveVarsBelow, IsEncoding, Meets, inputs_by}
 use Rattle.ground_gates.specs.declared.board.Board.{Board}
 use Rattle.ground_gates.specs.declared.names.Owner.{Owner}
 use Rattle.ground_gates.specs.declared.names.Owner.TheVariants.{Gate, Input}
 use Rattle.ground_gates.specs.Encoded.{IsEncodedTo}
 use Rattle.ground_gates.specs.Meaning.{IsFaithful, IsSoundAtInputs, owner_truth, truth, under}
-use Rattle.ground_gates.specs.Names.{HasNoName, IsOnlyName}
+use Rattle.ground_gates.specs.Names.{HasNoName, IsOnlyName, end_of}
 use Rattle.ground_gates.specs.Said.{clauses_in, IsPlacedFor, Says}
 use Rattle.ground_gates.proofs.Going.{faithful_front, sound_front, meets_front}
+use Rattle.ground_gates.proofs.Disjoined.{length-lists}
+use Rattle.ground_gates.proofs.VarsBelow.{placed_later}
 
 below_or : (i k : ℕ) → i < k + 1 → (i < k) ⊎ (i ≡ k)
 below_or zero zero lt = inr refl
@@ -28,12 +28,12 @@ below_or (suc i) (suc k) lt = elim (below_or i k (omega (arith, lt))) [ inl less
 
 module _ (gates : List AnyGate) (inputs : List (List ℕ)) (base root : ℕ) where
   -- the gate itself
-  pub encoded_first : (old new : Board) → old.names.base ≡ base → old.names.owners ≡ [] → clauses_in old ≡ [] → IsPlacedFor gates root old → old.names.input_places ≡ length inputs
+  pub encoded_first : (old new : Board) → old.names.base ≡ base → old.names.owners ≡ [] → clauses_in old ≡ [] → IsPlacedFor gates inputs root old
       → Says gates inputs root old new (λ w. under None w (truth gates inputs w root)) → IsEncodedTo gates inputs base root root new
-  encoded_first old new begins none clauses placed inputs_placed h = record {
+  encoded_first old new begins none clauses placed h = record {
     begins = h.names.base ∙ begins;
-    placed = (placed.0, h.names.places ∙ placed.1);
-    inputs_placed = h.names.input_places ∙ inputs_placed;
+    placed = placed_later gates inputs root root old new h.names placed;
+    within = h.within (let P : List (List Literal) → Type 0 = λ cs. HaveVarsBelow (end_of old.names) cs in subst P (sym clauses) (λ clause c. Contains-none clause c));
     own = λ w met. own w met;
     sound = λ w met below. h.sound w met below (own w met) refl;
     complete = λ w faithful on. (h.complete w faithful on (nothing w)).0;
@@ -52,7 +52,7 @@ module _ (gates : List AnyGate) (inputs : List (List ℕ)) (base root : ℕ) whe
   encoded_none board k none h = record {
     begins = h.begins;
     placed = h.placed;
-    inputs_placed = h.inputs_placed;
+    within = h.within;
     own = h.own;
     sound = λ w met below.
         h.sound w met
@@ -76,8 +76,8 @@ module _ (gates : List AnyGate) (inputs : List (List ℕ)) (base root : ℕ) whe
       → IsEncodedTo gates inputs base root (k + 1) old → IsEncodedTo gates inputs base root k new
   encoded_on old new k x is h e = record {
     begins = h.names.base ∙ e.begins;
-    placed = (e.placed.0, h.names.places ∙ e.placed.1);
-    inputs_placed = h.names.input_places ∙ e.inputs_placed;
+    placed = placed_later gates inputs k root old new h.names e.placed;
+    within = h.within e.within;
     own = λ w met. h.inputs_too w met (e.own w (front w met));
     sound = λ w met below.
         e.sound w (front w met)
@@ -178,24 +178,28 @@ module _ (gates : List AnyGate) (inputs : List (List ℕ)) (base root : ℕ) (va
     faithful : IsFaithful gates inputs (extended v) board.names
     faithful n o at = ap (λ b. extended v (b + n)) h.begins ∙ (behind n o at ∙ sym (same_owner o))
 
-  pub encoded : (end : ℕ) → end ≡ board.names.base + length board.names.owners → length board.names.owners ≤ board.names.places + board.names.input_places → All (λ c. All (λ l. l.var < end) c.items) board.clauses.items
-      → IsEncoding base end inputs gates root (clauses_in board)
-  encoded end is few within = record {
+  pub encoded : (end : ℕ) → end ≡ end_of board.names → length board.names.owners ≤ board.names.places + board.names.input_places → IsEncoding base end inputs gates root (clauses_in board)
+  encoded end is few = record {
     rise = omega (arith, is, h.begins);
-    few = omega (arith, is, few, h.begins, h.placed.1, h.inputs_placed);
+    few = omega (arith, is, few, h.begins, h.placed.places, h.placed.inputs_placed.places);
     sound = λ v met. h.sound v met (λ n k at lt on. absurd (omega (arith, lt)));
     complete = λ v on. (extended v, kept v, h.complete (extended v) (faithful v) (same_owner v (Gate root) ∙ on));
-    below = λ clause l c here. below board.clauses.items within clause l c here;
+    below = λ clause l c here. let P : ℕ → Type 0 = λ n. l.var < n in subst P (sym is) (h.within clause c l here);
   }
-    where
-      below : (cs : List (Vec Literal Global)) → All (λ c. All (λ l. l.var < end) c.items) cs → (clause : List Literal) (l : Literal) → Contains (map (λ c. c.items) cs) clause → Contains clause l → l.var < end
-      below cs all clause l c here =
-          let (own, in-cs, same) = in_map (λ c. c.items) cs clause c in
-          let P : List Literal → Type 0 = λ ls. Contains ls l in
-          All-contains (λ l. l.var < end) own.items l (All-contains (λ c. All (λ l. l.var < end) c.items) cs own all in-cs) (subst P (sym same) here)
 
 -- the variables of each input are below the base
 pub all_variables : (inputs : List (Vec ℕ Global)) (base : ℕ) → All (λ xs. All (λ x. x < base) xs.items) inputs → (k : ℕ) → All (λ x. x < base) (slice_index_or (map (λ xs. xs.items) inputs) k [])
 all_variables [] base all k = λ i d lt. absurd (omega (arith, lt))
 all_variables (xs ∷ inputs) base all zero = all 0 xs (omega arith)
 all_variables (xs ∷ inputs) base all (suc k) = all_variables inputs base (λ i d lt. all (suc i) d (omega (arith, lt))) k
+
+-- there are places for all, before there are variables
+pub placed_first : (gates : List AnyGate) (inputs : List (Vec ℕ Global)) (base root : ℕ) (board : Board) → root < length gates → board.names.base ≡ base → {places : ℕ} → board.names.places ≡ places → places ≡ length gates
+    → board.names.input_places ≡ length inputs → All (λ xs. All (λ x. x < base) xs.items) inputs → IsPlacedFor gates (map (λ xs. xs.items) inputs) root board
+placed_first gates inputs base root board there begins of_gates size of_inputs variables =
+    let P : ℕ → Type 0 = λ base. AreFactsBelow base (map (λ xs. xs.items) inputs) in
+    record {
+      few = omega (arith, there);
+      places = of_gates ∙ size;
+      inputs_placed = record { places = of_inputs ∙ sym (length-lists inputs); facts = subst P (sym begins) (all_variables inputs base variables) };
+    }

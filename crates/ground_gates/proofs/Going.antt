@@ -1,17 +1,18 @@
 -- How what clauses say goes on.
-use Rattle.std.proofs.Common.{◌≡◌, ℕ, ◌<◌, ◌+◌, Bool, true, false, ◌&&◌, ◌||◌, inl, inr, refl, sym, ◌∙◌, List, [], ◌∷◌, ◌++◌, Some, ap, subst, slice_get, Contains, append_assoc, append-nil}
+use Rattle.std.proofs.Common.{◌≡◌, ℕ, ◌<◌, ◌+◌, Bool, true, false, ◌&&◌, ◌||◌, inl, inr, refl, sym, ◌∙◌, List, [], ◌∷◌, ◌++◌, Some, ap, subst, slice_get, arith, Contains, append_assoc, append-nil}
 use Rattle.std.proofs.lemmas.List.Elements.{Contains-append_cases, Contains-append_left, Contains-append_right}
 use Rattle.form_formula.proofs.Placement.{slice_get_front}
 use Rattle.form_terms.proofs.Lists.{Contains-head, Contains-cons_cases, Contains-none}
 use Rattle.ground_gates.specs.declared.gate.Gate.{Gate as AnyGate}
 use Rattle.ground_gates.specs.declared.gate.Literal.{Literal}
-use Rattle.ground_gates.specs.Clauses.{Meets, meets_clause}
+use Rattle.ground_gates.specs.Clauses.{HasVarsBelow, HaveVarsBelow, Meets, meets_clause}
 use Rattle.ground_gates.specs.declared.board.Board.{Board}
 use Rattle.ground_gates.specs.declared.names.Owner.{Owner}
 use Rattle.ground_gates.specs.declared.names.Owner.TheVariants.{Gate, Input}
 use Rattle.ground_gates.specs.Meaning.{IsFaithful, IsSoundBelow, IsSoundAtInputs, truth, input_truth}
-use Rattle.ground_gates.specs.Names.{NamesView, Grows, IsNamed}
+use Rattle.ground_gates.specs.Names.{NamesView, Grows, IsNamed, end_of}
 use Rattle.ground_gates.specs.Said.{clauses_in, IsPushed, HasGate, Goes}
+use Rattle.ground_gates.proofs.VarsBelow.{clauses_more, clauses_one, clauses_same, end_rises}
 
 pub grows_same : (j : ℕ) (old new : NamesView) → new ≡ old → Grows j old new
 grows_same j old new e = record {
@@ -80,6 +81,7 @@ module _ (gates : List AnyGate) (inputs : List (List ℕ)) where
       names = grows_same j old.names new.names names;
       more = [];
       whole = clauses ∙ sym (append-nil (clauses_in old));
+      within = λ h. clauses_same (end_of old.names) (end_of new.names) (clauses_in old) (clauses_in new) clauses (end_rises j old.names new.names (grows_same j old.names new.names names)) h;
       inputs_too = λ w met h. let P : NamesView → Type 0 = λ n. IsSoundAtInputs gates inputs w n in subst P (sym names) h;
       sound = λ w met below own on. on;
       complete = λ w faithful on met. let P : List (List Literal) → Type 0 = λ cs. Meets cs w in (subst P (sym clauses) met, on);
@@ -90,6 +92,7 @@ module _ (gates : List AnyGate) (inputs : List (List ℕ)) where
       names = grows_trans j a.names b.names c.names first.names second.names;
       more = first.more ++ second.more;
       whole = second.whole ∙ (ap (λ cs. cs ++ second.more) first.whole ∙ append_assoc (clauses_in a) first.more second.more);
+      within = λ h. second.within (first.within h);
       inputs_too = λ w met h. second.inputs_too w met (first.inputs_too w (front w met) h);
       sound = λ w met below own on.
           first.sound w (front w met) (sound_front j b.names c.names second.names w j below) (inputs_front j b.names c.names second.names w own)
@@ -108,6 +111,7 @@ module _ (gates : List AnyGate) (inputs : List (List ℕ)) where
       names = h.names;
       more = h.more;
       whole = h.whole;
+      within = h.within;
       inputs_too = h.inputs_too;
       sound = λ w met below own on. e w ∙ h.sound w met below own (sym (d w) ∙ on);
       complete = λ w faithful on met. let (met', on') = h.complete w faithful (sym (e w) ∙ on) met in (met', d w ∙ on');
@@ -131,6 +135,7 @@ module _ (gates : List AnyGate) (inputs : List (List ℕ)) where
       names = h.names;
       more = h.more;
       whole = h.whole;
+      within = h.within;
       inputs_too = h.inputs_too;
       sound = λ w met below own on. both_true (p w) (r w) (h.sound w met below own (left_true (q w) (r w) on)) (right_true (q w) (r w) on);
       complete = λ w faithful on met.
@@ -139,11 +144,17 @@ module _ (gates : List AnyGate) (inputs : List (List ℕ)) where
     }
 
     -- a clause says it
-    pub goes_pushed : (a b : Board) (clause : List Literal) (p : Asked) → IsPushed a b clause → ((w : ℕ → Bool) → p w ≡ meets_clause w clause) → Goes gates inputs j a b p (λ w. true)
-    goes_pushed a b clause p h e = record {
+    pub goes_pushed : (a b : Board) (clause : List Literal) (p : Asked) → IsPushed a b clause → HasVarsBelow (end_of a.names) clause → ((w : ℕ → Bool) → p w ≡ meets_clause w clause)
+        → Goes gates inputs j a b p (λ w. true)
+    goes_pushed a b clause p h vars e = record {
       names = grows_same j a.names b.names h.names;
       more = clause ∷ [];
       whole = h.clauses;
+      within =
+          let P : NamesView → Type 0 = λ names. HaveVarsBelow (end_of names) (clauses_in b) in
+          λ before.
+          subst P (sym h.names)
+          (clauses_more (clauses_in a) (clause ∷ []) (clauses_in b) (end_of a.names) (end_of a.names) h.clauses (omega arith) (clauses_one (end_of a.names) clause vars) before);
       inputs_too = λ w met own. let P : NamesView → Type 0 = λ n. IsSoundAtInputs gates inputs w n in subst P (sym h.names) own;
       sound = λ w met below own on.
           let P : List (List Literal) → Type 0 = λ cs. Contains cs clause in
@@ -159,6 +170,7 @@ module _ (gates : List AnyGate) (inputs : List (List ℕ)) where
       names = h.named.grows j lt;
       more = [];
       whole = h.clauses ∙ sym (append-nil (clauses_in a));
+      within = λ before. clauses_same (end_of a.names) (end_of b.names) (clauses_in a) (clauses_in b) h.clauses (end_rises j a.names b.names (h.named.grows j lt)) before;
       inputs_too = λ w met own. inputs_kept w own;
       sound = λ w met below own on. on;
       complete = λ w faithful on met. let P : List (List Literal) → Type 0 = λ cs. Meets cs w in (subst P (sym h.clauses) met, on);
@@ -175,6 +187,7 @@ module _ (gates : List AnyGate) (inputs : List (List ℕ)) where
       names = h.names;
       more = h.more;
       whole = h.whole;
+      within = h.within;
       inputs_too = h.inputs_too;
       sound = λ w met below own on. h.sound w met below own (either (truth gates inputs w k) (w x) (q w) (λ e. below n k at lt (sym (ap w is) ∙ e)) on);
       complete = λ w faithful on met.
@@ -189,6 +202,7 @@ module _ (gates : List AnyGate) (inputs : List (List ℕ)) where
       names = h.names;
       more = h.more;
       whole = h.whole;
+      within = h.within;
       inputs_too = h.inputs_too;
       sound = λ w met below own on. h.sound w met below own (either (input_truth gates inputs w k) (w x) (q w) (λ e. own n k at (sym (ap w is) ∙ e)) on);
       complete = λ w faithful on met.

@@ -1,5 +1,5 @@
 -- Inputs that have variables, and those that are parts of disjunctions.
-use Rattle.std.proofs.Common.{◌≡◌, ℕ, ◌+◌, Bool, true, false, not, ◌||◌, inl, inr, refl, sym, ◌∙◌, List, [], ◌∷◌, ◌++◌, Some, length, map, ap, subst, slice_get, slice_index_or, Contains}
+use Rattle.std.proofs.Common.{◌≡◌, ℕ, ◌+◌, ◌<◌, ◌≤◌, Bool, true, false, not, ◌||◌, inl, inr, refl, sym, ◌∙◌, List, [], ◌∷◌, ◌++◌, Some, length, length-append, map, ap, subst, arith, slice_get, slice_index_or, Contains}
 use Rattle.std.proofs.lemmas.List.Elements.{Contains-append_right}
 use Rattle.form_formula.proofs.Placement.{slice_get_last, slice_get_pushed}
 use Rattle.form_terms.proofs.Listed.{to_map, in_map}
@@ -7,15 +7,16 @@ use Rattle.form_terms.proofs.Lists.{Contains-cons_cases, Contains-none, list_all
 use Rattle.form_terms.proofs.Kept.{list_all-from}
 use Rattle.ground_gates.specs.declared.gate.Gate.{Gate as AnyGate}
 use Rattle.ground_gates.specs.declared.gate.Literal.{Literal}
-use Rattle.ground_gates.specs.Clauses.{Meets, meets_clause}
+use Rattle.ground_gates.specs.Clauses.{HaveVarsBelow, Meets, meets_clause}
 use Rattle.ground_gates.specs.declared.board.Board.{Board}
 use Rattle.ground_gates.specs.declared.names.Owner.{Owner}
 use Rattle.ground_gates.specs.declared.names.Owner.TheVariants.{Input}
 use Rattle.ground_gates.specs.Literals.{is_true, is_false}
 use Rattle.ground_gates.specs.Meaning.{IsFaithful, input_truth}
-use Rattle.ground_gates.specs.Names.{IsInputAdded, IsOwnerBelow, IsNamed}
-use Rattle.ground_gates.specs.Said.{clauses_in, Goes, HasInput}
+use Rattle.ground_gates.specs.Names.{IsInputAdded, IsOwnerBelow, IsNamed, end_of}
+use Rattle.ground_gates.specs.Said.{AreInputsPlaced, clauses_in, Goes, HasInput}
 use Rattle.ground_gates.proofs.Going.{goes_same, meets_more}
+use Rattle.ground_gates.proofs.VarsBelow.{clauses_each, clauses_more, facts_at, facts_later, named_below, vars_one}
 
 module _ (gates : List AnyGate) (inputs : List (List ℕ)) (j k x : ℕ) (old new : Board) where
   abbrev facts : List ℕ
@@ -33,7 +34,7 @@ module _ (gates : List AnyGate) (inputs : List (List ℕ)) (j k x : ℕ) (old ne
   following true b h = ap (λ c. c || false) (h refl)
   following false b h = refl
 
-  module _ (added : IsInputAdded k old.names new.names x) (more : clauses_in new ≡ clauses_in old ++ map clause facts) where
+  module _ (added : IsInputAdded k old.names new.names x) (more : clauses_in new ≡ clauses_in old ++ map clause facts) (inputs_in : AreInputsPlaced inputs old) where
     here : slice_get new.names.owners (length old.names.owners) ≡ Some (Input k)
     here = ap (λ os. slice_get os (length old.names.owners)) added.whole ∙ slice_get_last old.names.owners (Input k)
 
@@ -53,6 +54,16 @@ module _ (gates : List AnyGate) (inputs : List (List ℕ)) (j k x : ℕ) (old ne
         let P : List Literal → Type 0 = λ c. meets_clause w c ≡ true in
         subst P is (following (w x) (w y) (λ on. list_all-Contains w facts y (sym (ap w variable ∙ faithful (length old.names.owners) (Input k) here) ∙ on) y-in))
 
+    rises : end_of old.names ≤ end_of new.names
+    rises = omega (arith, added.base, ap length added.whole, length-append old.names.owners (Input k ∷ []))
+
+    within : HaveVarsBelow (end_of old.names) (clauses_in old) → HaveVarsBelow (end_of new.names) (clauses_in new)
+    within before =
+        let end = end_of new.names in
+        let here-below : x < end = named_below new.names (Input k) x (length old.names.owners, variable, here) in
+        clauses_more (clauses_in old) (map clause facts) (clauses_in new) (end_of old.names) end more rises
+        (clauses_each end (is_false x ∷ []) facts (vars_one end (is_false x) here-below) (facts_later (end_of old.names) end facts rises (facts_at inputs old k inputs_in))) before
+
     own_goes : (asked : (ℕ → Bool) → Bool) → Goes gates inputs j old new asked asked
     own_goes asked = record {
       names = record {
@@ -68,6 +79,7 @@ module _ (gates : List AnyGate) (inputs : List (List ℕ)) (j k x : ℕ) (old ne
       };
       more = map clause facts;
       whole = more;
+      within = within;
       inputs_too = λ w met own n i at on.
           elim (slice_get_pushed old.names.owners (Input k) n (Input i) (ap (λ os. slice_get os n) (sym added.whole) ∙ at)) [
             | inl before ↦ own n i before (ap (λ b. w (b + n)) (sym added.base) ∙ on)

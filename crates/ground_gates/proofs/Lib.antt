@@ -7,3 +7,4 @@ pub mod NamesLaws
 pub mod PartLaws
 pub mod Sharing
 pub mod Values
+pub mod VarsBelow

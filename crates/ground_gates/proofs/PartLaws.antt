@@ -7,10 +7,11 @@ use Rattle.std.proofs.lemmas.List.Folds.{list_any-append}
 use Rattle.ground_gates.specs.declared.gate.Gate.{Gate}
 use Rattle.ground_gates.specs.declared.gate.Literal.{Literal}
 use Rattle.ground_gates.specs.Gates.{literal_value}
-use Rattle.ground_gates.specs.Clauses.{inputs_by, meets_clause}
+use Rattle.ground_gates.specs.Clauses.{HasVarsBelow, inputs_by, meets_clause}
 use Rattle.ground_gates.specs.declared.parts.Parts.{Parts}
 use Rattle.ground_gates.specs.Literals.{is_false}
 use Rattle.ground_gates.specs.Meaning.{input_truth, truth, some_part}
+use Rattle.ground_gates.proofs.VarsBelow.{vars_both, vars_false}
 use Rattle.ground_gates.specs.Parted.{IsWithInput, IsWithGates}
 
 pub or_assoc : (a b c : Bool) → ((a || b) || c) ≡ (a || (b || c))
@@ -125,4 +126,8 @@ module _ (inputs : List (List ℕ)) (old new : Parts) where
         let P : Vec ℕ Global → Type 0 = λ v. All (λ k. k < length inputs) v.items in
         let Q : Vec ℕ Global → Type 0 = λ v. All (λ k. k < below) v.items in
         record { inputs_in = subst P (sym i) are.inputs_in; stack_below = subst Q (sym s) are.stack_below };
+    within = λ n facts before.
+        let L : List Literal → Type 0 = λ ls. HasVarsBelow n ls in
+        let more : List Literal = map is_false (slice_index_or inputs l.var []) in
+        subst L (sym e) (vars_both n old.literals.items more before (vars_false n (slice_index_or inputs l.var []) (facts l.var)));
   }

@@ -1,5 +1,5 @@
 -- Clauses, and when they say that a gate is true.
-use Rattle.std.specs.Prelude.{◌≡◌, ℕ, ◌+◌, ◌<◌, ◌≤◌, Bool, true, List, [], Some, Contains, length, slice_get, slice_index_or}
+use Rattle.std.specs.Prelude.{◌≡◌, ℕ, ◌+◌, ◌<◌, ◌≤◌, All, Bool, true, List, [], Option, None, Some, Contains, length, slice_get, slice_index_or}
 use Rattle.std.specs.List.{list_all, list_any}
 use Rattle.ground_gates.specs.declared.gate.Literal.{Literal}
 use Rattle.ground_gates.specs.declared.gate.Gate.{Gate}
@@ -13,6 +13,22 @@ meets_clause v clause = list_any (literal_value v) clause
 -- and clauses, if each of them is
 abbrev pub Meets : List (List Literal) → (ℕ → Bool) → Type 0
 Meets clauses v = (clause : List Literal) → Contains clauses clause → meets_clause v clause ≡ true
+
+-- the variables of a clause are below this number
+abbrev pub HasVarsBelow : ℕ → List Literal → Type 0
+HasVarsBelow n clause = (l : Literal) → Contains clause l → l.var < n
+
+abbrev pub HaveVarsBelow : ℕ → List (List Literal) → Type 0
+HaveVarsBelow n clauses = (clause : List Literal) → Contains clauses clause → HasVarsBelow n clause
+
+-- and so is a variable, if there is one
+abbrev pub IsVarBelow : ℕ → Option ℕ → Type 0
+IsVarBelow n None = Unit {0}
+IsVarBelow n (Some x) = x < n
+
+-- and those for which each input stands
+abbrev pub AreFactsBelow : ℕ → List (List ℕ) → Type 0
+AreFactsBelow n inputs = (k : ℕ) → All (λ x. x < n) (slice_index_or inputs k [])
 
 -- the inputs in gates have numbers below this one
 abbrev pub HasInputBelow : ℕ → Gate → Type 0

@@ -25,6 +25,10 @@ pub record AreNames (base : ℕ) (owners : List Owner) (gates inputs : List (Opt
   pub input_only : (k n : ℕ) → slice_get owners n ≡ Some (Input k) → slice_get inputs k ≡ Some (Some n)
   pub one_each : length owners ≡ taken gates + taken inputs
 
+-- the number behind the last of them
+abbrev pub end_of : NamesView → ℕ
+end_of names = names.base + length names.owners
+
 -- the variable stands for this
 abbrev pub IsNamed : NamesView → Owner → ℕ → Type 0
 IsNamed names o x = (n : ℕ) × (x ≡ names.base + n) × (slice_get names.owners n ≡ Some o)

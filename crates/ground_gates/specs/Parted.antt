@@ -3,7 +3,7 @@ use Rattle.std.specs.Prelude.{◌≡◌, ℕ, ◌<◌, Bool, ◌||◌, List, [],
 use Rattle.ground_gates.specs.declared.gate.Gate.{Gate}
 use Rattle.ground_gates.specs.declared.gate.Literal.{Literal}
 use Rattle.ground_gates.specs.Gates.{literal_value}
-use Rattle.ground_gates.specs.Clauses.{inputs_by}
+use Rattle.ground_gates.specs.Clauses.{AreFactsBelow, HasVarsBelow, inputs_by}
 use Rattle.ground_gates.specs.declared.parts.Parts.{Parts}
 use Rattle.ground_gates.specs.Meaning.{some_part}
 
@@ -16,6 +16,7 @@ pub record AreParts (inputs : List (List ℕ)) (below : ℕ) (p : Parts) : Type 
 pub record IsWithInput (inputs : List (List ℕ)) (l : Literal) (old new : Parts) : Type 0 where
   pub says : (gates : List Gate) (w : ℕ → Bool) → some_part gates inputs w new ≡ (literal_value (inputs_by inputs w) l || some_part gates inputs w old)
   pub are : (below : ℕ) → AreParts inputs below old → AreParts inputs below new
+  pub within : (n : ℕ) → AreFactsBelow n inputs → HasVarsBelow n old.literals.items → HasVarsBelow n new.literals.items
 
 -- two gates are
 pub record IsWithGates (a b : ℕ) (old new : Parts) : Type 0 where

@@ -2,12 +2,14 @@
 
 ghost use Rattle.std.specs.Prelude.{◌≡◌, ◌<◌, ◌≤◌, ℕ, Bool, List, ◌||◌, ◌&&◌, ◌++◌, ◌∷◌, [], map, length, take, true, false, All, IfOk, OnOk, slice_index_or};
 ghost use Rattle.std.specs.List.{list_all};
-ghost use Rattle.ground_gates.specs.Clauses.{HaveInputsBelow, inputs_by, meets_clause};
+ghost use Rattle.ground_gates.specs.Clauses.{HaveInputsBelow, IsVarBelow, inputs_by, meets_clause};
 ghost use Rattle.ground_gates.specs.Gates.{literal_value};
 ghost use Rattle.ground_gates.specs.declared.gate.Gate.{Gate as AnyGate};
 ghost use Rattle.ground_gates.specs.Literals.{is_false, is_none, is_true};
 ghost use Rattle.ground_gates.specs.Meaning.{truth, under};
-ghost use Rattle.ground_gates.specs.Said.{Goes, IsPlacedFor, Says, all_under, clauses_in};
+ghost use Rattle.ground_gates.specs.Names.{end_of};
+ghost use Rattle.ground_gates.specs.Said.{AreInputsPlaced, Goes, IsPlacedFor, Says, all_under};
+ghost use Rattle.ground_gates.specs.Said.{clauses_in};
 
 use crate::board::Board;
 use crate::disjunctions::say_either;
@@ -87,7 +89,9 @@ fn say_input(
     literal: Literal,
     board: &mut Board,
 ) -> Result<(), AllocError>
-    requires { literal.var < length source.inputs.now }
+    requires input { literal.var < length source.inputs.now }
+    requires placed { AreInputsPlaced (map (λ xs. xs.items) source.inputs.now) board.old }
+    requires whole { IsVarBelow (end_of board.old.names) whole }
     ensures { OnOk result ((gates : List AnyGate) (j : ℕ) →
         let inputs = map (λ xs. xs.items) source.entry.inputs.now in
         Says gates inputs j board.old board.new
@@ -115,7 +119,9 @@ fn say(
     requires gate { gate ≤ source.below }
     requires within { gate < length source.gates.now }
     requires inputs { HaveInputsBelow (length source.inputs.now) source.gates.now }
-    requires placed { IsPlacedFor source.gates.now source.below board.old }
+    requires placed { IsPlacedFor source.gates.now (map (λ xs. xs.items) source.inputs.now)
+        source.below board.old }
+    requires whole { IsVarBelow (end_of board.old.names) whole }
     requires stack { All (λ k. k < source.below) stack.old.items }
     ensures goes { OnOk result (let inputs = map (λ xs. xs.items) source.entry.inputs.now in
         Goes source.entry.gates.now inputs source.entry.below board.old board.new
@@ -158,7 +164,9 @@ fn say_named(
     board: &mut Board,
 ) -> Result<(), AllocError>
     requires below { gate < source.below }
-    requires placed { IsPlacedFor source.gates.now source.below board.old }
+    requires placed { IsPlacedFor source.gates.now (map (λ xs. xs.items) source.inputs.now)
+        source.below board.old }
+    requires whole { IsVarBelow (end_of board.old.names) whole }
     ensures { OnOk result ((inputs : List (List ℕ)) → Says source.entry.gates.now inputs
         source.entry.below board.old board.new
         (λ w. under whole w (truth source.entry.gates.now inputs w gate))) }
@@ -180,7 +188,9 @@ fn say_part(
 ) -> Result<(), AllocError>
     requires gate { gate < source.below }
     requires inputs { HaveInputsBelow (length source.inputs.now) source.gates.now }
-    requires placed { IsPlacedFor source.gates.now source.below board.old }
+    requires placed { IsPlacedFor source.gates.now (map (λ xs. xs.items) source.inputs.now)
+        source.below board.old }
+    requires whole { IsVarBelow (end_of board.old.names) whole }
     requires stack { All (λ k. k < source.below) stack.old.items }
     ensures goes { OnOk result (let inputs = map (λ xs. xs.items) source.entry.inputs.now in
         Goes source.entry.gates.now inputs source.entry.below board.old board.new
@@ -206,7 +216,9 @@ fn say_stack(
     stack: &mut Vec<u32>,
 ) -> Result<(), AllocError>
     requires inputs { HaveInputsBelow (length source.inputs.now) source.gates.now }
-    requires placed { IsPlacedFor source.gates.now source.below board.old }
+    requires placed { IsPlacedFor source.gates.now (map (λ xs. xs.items) source.inputs.now)
+        source.below board.old }
+    requires whole { IsVarBelow (end_of board.old.names) whole }
     requires stack { All (λ k. k < source.below) stack.old.items }
     ensures goes { OnOk result (let inputs = map (λ xs. xs.items) source.entry.inputs.now in
         Goes source.entry.gates.now inputs source.entry.below board.old board.new
@@ -231,7 +243,9 @@ fn say_rest(
     board: &mut Board,
     stack: &mut Vec<u32>,
 ) -> Result<(), AllocError>
-    requires placed { IsPlacedFor source.gates.now source.below board.old }
+    requires placed { IsPlacedFor source.gates.now (map (λ xs. xs.items) source.inputs.now)
+        source.below board.old }
+    requires whole { IsVarBelow (end_of board.old.names) whole }
     requires stack { All (λ k. k < source.below) stack.old.items }
     ensures goes { OnOk result (let inputs = map (λ xs. xs.items) source.entry.inputs.now in
         Goes source.entry.gates.now inputs source.entry.below board.old board.new
@@ -254,7 +268,9 @@ pub(crate) fn say_all(
 ) -> Result<(), AllocError>
     requires within { source.below < length source.gates.now }
     requires inputs { HaveInputsBelow (length source.inputs.now) source.gates.now }
-    requires placed { IsPlacedFor source.gates.now source.below board.old }
+    requires placed { IsPlacedFor source.gates.now (map (λ xs. xs.items) source.inputs.now)
+        source.below board.old }
+    requires whole { IsVarBelow (end_of board.old.names) whole }
     ensures { OnOk result (let inputs = map (λ xs. xs.items) source.entry.inputs.now in
         Says source.entry.gates.now inputs source.entry.below board.old board.new
         (λ w. under whole w (truth source.entry.gates.now inputs w source.entry.below))) }

@@ -2,11 +2,12 @@
 
 ghost use Rattle.std.specs.Prelude.{◌≡◌, ◌<◌, ◌≤◌, ℕ, Bool, List, ◌||◌, ◌&&◌, ◌++◌, ◌∷◌, [], map, length, true, false, All, IfOk, OnOk, slice_index_or};
 ghost use Rattle.std.specs.List.{list_all};
-ghost use Rattle.ground_gates.specs.Clauses.{HaveInputsBelow, meets_clause};
+ghost use Rattle.ground_gates.specs.Clauses.{HasVarsBelow, HaveInputsBelow, IsVarBelow, meets_clause};
 ghost use Rattle.ground_gates.specs.declared.gate.Gate.{Gate as AnyGate};
 ghost use Rattle.ground_gates.specs.Meaning.{input_truth, some_part, truth, under};
 ghost use Rattle.ground_gates.specs.Parted.{AreParts};
-ghost use Rattle.ground_gates.specs.Said.{Goes, HasInput, IsPlacedFor, Says, some_of};
+ghost use Rattle.ground_gates.specs.Names.{end_of};
+ghost use Rattle.ground_gates.specs.Said.{AreInputsPlaced, Goes, HasInput, IsPlacedFor, Says, some_of};
 
 use crate::Gate;
 use crate::board::Board;
@@ -27,7 +28,9 @@ fn add_named(
     parts: &mut Parts,
 ) -> Result<(), AllocError>
     requires below { gate < source.below }
-    requires placed { IsPlacedFor source.gates.now source.below board.old }
+    requires placed { IsPlacedFor source.gates.now (map (λ xs. xs.items) source.inputs.now)
+        source.below board.old }
+    requires within { HasVarsBelow (end_of board.old.names) parts.old.literals.items }
     ensures goes { OnOk result ((inputs : List (List ℕ)) → Goes source.entry.gates.now inputs
         source.entry.below board.old board.new
         (λ w. truth source.entry.gates.now inputs w gate
@@ -35,6 +38,7 @@ fn add_named(
         (λ w. some_part source.entry.gates.now inputs w parts.new)) }
     ensures inputs { OnOk result (parts.new.inputs ≡ parts.old.inputs) }
     ensures stack { OnOk result (parts.new.stack ≡ parts.old.stack) }
+    ensures within { OnOk result (HasVarsBelow (end_of board.new.names) parts.new.literals.items) }
 {
     let variable = board.name_gate(gate)?;
     parts.literals.push(on(variable))?;
@@ -50,8 +54,10 @@ fn take(
 ) -> Result<bool, AllocError>
     requires below { gate < source.below }
     requires inputs { HaveInputsBelow (length source.inputs.now) source.gates.now }
-    requires placed { IsPlacedFor source.gates.now source.below board.old }
+    requires placed { IsPlacedFor source.gates.now (map (λ xs. xs.items) source.inputs.now)
+        source.below board.old }
     requires are { AreParts (map (λ xs. xs.items) source.inputs.now) source.below parts.old }
+    requires within { HasVarsBelow (end_of board.old.names) parts.old.literals.items }
     ensures goes { IfOk result (λ always. let inputs = map (λ xs. xs.items)
         source.entry.inputs.now in Goes source.entry.gates.now inputs
         source.entry.below board.old board.new
@@ -60,6 +66,7 @@ fn take(
         (some_of source.entry.gates.now inputs always parts.new)) }
     ensures are { OnOk result (AreParts (map (λ xs. xs.items) source.entry.inputs.now)
         source.entry.below parts.new) }
+    ensures within { OnOk result (HasVarsBelow (end_of board.new.names) parts.new.literals.items) }
 {
     // It says that parts have smaller numbers.
     let _count = source.gates.len();
@@ -88,8 +95,10 @@ fn take(
 /// Takes the gates apart that are parts, up to so many. Gives whether one part is always true.
 fn take_apart(source: Source<'_>, board: &mut Board, parts: &mut Parts) -> Result<bool, AllocError>
     requires inputs { HaveInputsBelow (length source.inputs.now) source.gates.now }
-    requires placed { IsPlacedFor source.gates.now source.below board.old }
+    requires placed { IsPlacedFor source.gates.now (map (λ xs. xs.items) source.inputs.now)
+        source.below board.old }
     requires are { AreParts (map (λ xs. xs.items) source.inputs.now) source.below parts.old }
+    requires within { HasVarsBelow (end_of board.old.names) parts.old.literals.items }
     ensures goes { IfOk result (λ always. let inputs = map (λ xs. xs.items)
         source.entry.inputs.now in Goes source.entry.gates.now inputs
         source.entry.below board.old board.new
@@ -97,6 +106,7 @@ fn take_apart(source: Source<'_>, board: &mut Board, parts: &mut Parts) -> Resul
         (some_of source.entry.gates.now inputs always parts.new)) }
     ensures are { OnOk result (AreParts (map (λ xs. xs.items) source.entry.inputs.now)
         source.entry.below parts.new) }
+    ensures within { OnOk result (HasVarsBelow (end_of board.new.names) parts.new.literals.items) }
 {
     for _step in 0..MOST_PARTS {
         let Some(gate) = parts.stack.pop() else {
@@ -111,8 +121,10 @@ fn take_apart(source: Source<'_>, board: &mut Board, parts: &mut Parts) -> Resul
 
 /// Makes parts that are still gates literals of their variables.
 fn name_rest(source: Source<'_>, board: &mut Board, parts: &mut Parts) -> Result<(), AllocError>
-    requires placed { IsPlacedFor source.gates.now source.below board.old }
+    requires placed { IsPlacedFor source.gates.now (map (λ xs. xs.items) source.inputs.now)
+        source.below board.old }
     requires are { AreParts (map (λ xs. xs.items) source.inputs.now) source.below parts.old }
+    requires within { HasVarsBelow (end_of board.old.names) parts.old.literals.items }
     ensures goes { OnOk result (let inputs = map (λ xs. xs.items) source.entry.inputs.now in
         Goes source.entry.gates.now inputs source.entry.below board.old board.new
         (λ w. some_part source.entry.gates.now inputs w parts.old)
@@ -120,6 +132,7 @@ fn name_rest(source: Source<'_>, board: &mut Board, parts: &mut Parts) -> Result
     ensures are { OnOk result (AreParts (map (λ xs. xs.items) source.entry.inputs.now)
         source.entry.below parts.new) }
     ensures none { OnOk result (parts.new.stack.items ≡ []) }
+    ensures within { OnOk result (HasVarsBelow (end_of board.new.names) parts.new.literals.items) }
 {
     while let Some(gate) = parts.stack.pop() {
         add_named(source, gate, board, parts)?;
@@ -136,7 +149,9 @@ fn settle(
     board: &mut Board,
     parts: &mut Parts,
 ) -> Result<bool, AllocError>
-    requires { input < length source.inputs.now }
+    requires input { input < length source.inputs.now }
+    requires placed { AreInputsPlaced (map (λ xs. xs.items) source.inputs.now) board.old }
+    requires within { HasVarsBelow (end_of board.old.names) parts.old.literals.items }
     ensures goes { IfOk result (λ always. (gates : List AnyGate) (j : ℕ) →
         let inputs = map (λ xs. xs.items) source.entry.inputs.now in
         Goes gates inputs j board.old board.new
@@ -144,6 +159,7 @@ fn settle(
         (some_of gates inputs always parts.new)) }
     ensures inputs { OnOk result (parts.new.inputs ≡ parts.old.inputs) }
     ensures stack { OnOk result (parts.new.stack ≡ parts.old.stack) }
+    ensures within { OnOk result (HasVarsBelow (end_of board.new.names) parts.new.literals.items) }
 {
     let facts = source.inputs[input as usize].as_slice();
     let others = open_facts(alloc, parts.literals.as_slice(), facts)?;
@@ -168,8 +184,10 @@ fn settle_all(
     board: &mut Board,
     parts: &mut Parts,
 ) -> Result<bool, AllocError>
-    requires placed { IsPlacedFor source.gates.now source.below board.old }
+    requires placed { IsPlacedFor source.gates.now (map (λ xs. xs.items) source.inputs.now)
+        source.below board.old }
     requires are { AreParts (map (λ xs. xs.items) source.inputs.now) source.below parts.old }
+    requires within { HasVarsBelow (end_of board.old.names) parts.old.literals.items }
     ensures goes { IfOk result (λ always. let inputs = map (λ xs. xs.items)
         source.entry.inputs.now in Goes source.entry.gates.now inputs
         source.entry.below board.old board.new
@@ -177,6 +195,7 @@ fn settle_all(
         (some_of source.entry.gates.now inputs always parts.new)) }
     ensures stack { OnOk result (parts.new.stack ≡ parts.old.stack) }
     ensures none { IfOk result (λ always. always ≡ false → parts.new.inputs.items ≡ []) }
+    ensures within { OnOk result (HasVarsBelow (end_of board.new.names) parts.new.literals.items) }
 {
     while let Some(input) = parts.inputs.pop() {
         if settle(alloc, source, input, board, parts)? {
@@ -198,7 +217,9 @@ pub(crate) fn say_either(
     requires first { a < source.below }
     requires second { b < source.below }
     requires inputs { HaveInputsBelow (length source.inputs.now) source.gates.now }
-    requires placed { IsPlacedFor source.gates.now source.below board.old }
+    requires placed { IsPlacedFor source.gates.now (map (λ xs. xs.items) source.inputs.now)
+        source.below board.old }
+    requires whole { IsVarBelow (end_of board.old.names) whole }
     ensures { OnOk result (let inputs = map (λ xs. xs.items) source.entry.inputs.now in
         Says source.entry.gates.now inputs source.entry.below board.old board.new
         (λ w. under whole w (truth source.entry.gates.now inputs w a

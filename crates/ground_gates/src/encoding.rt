@@ -1,6 +1,6 @@
 //! Clauses that say that a gate is true.
 
-ghost use Rattle.std.specs.Prelude.{◌≡◌, ◌<◌, ◌+◌, ℕ, true, length, map, All, IfOk, OnOk};
+ghost use Rattle.std.specs.Prelude.{◌≡◌, ◌<◌, ◌+◌, ℕ, length, map, All, IfOk, OnOk};
 ghost use Rattle.ground_gates.specs.Clauses.{HaveInputsBelow, IsEncoding};
 ghost use Rattle.ground_gates.specs.Encoded.{IsEncodedTo};
 ghost use Rattle.ground_gates.specs.Said.{IsPlacedFor};
@@ -20,30 +20,6 @@ pub struct Encoding {
     pub end: u32,
 }
 
-/// Whether the variables of a clause are below an end.
-fn is_within(end: u32, clause: &[Literal]) -> bool
-    ensures { result ≡ true → All (λ l. l.var < end) clause.now }
-{
-    for literal in clause {
-        if literal.var >= end {
-            return false;
-        }
-    }
-    true
-}
-
-/// Whether the variables of clauses are below an end.
-fn are_within(end: u32, clauses: &[Vec<Literal>]) -> bool
-    ensures { result ≡ true → All (λ c. All (λ l. l.var < end) c.items) clauses.now }
-{
-    for clause in clauses {
-        if !is_within(end, clause.as_slice()) {
-            return false;
-        }
-    }
-    true
-}
-
 /// Puts the clauses at the end that say of a gate, if it has a variable, that it is true where its
 /// variable is.
 fn say_named_gate(
@@ -55,14 +31,15 @@ fn say_named_gate(
     requires gate { gate < source.below }
     requires within { source.below < length source.gates.now }
     requires inputs { HaveInputsBelow (length source.inputs.now) source.gates.now }
-    requires placed { IsPlacedFor source.gates.now source.below board.old }
+    requires placed { IsPlacedFor source.gates.now (map (λ xs. xs.items) source.inputs.now)
+        source.below board.old }
     ensures encoded { OnOk result ((base : ℕ) → let inputs = map (λ xs. xs.items)
         source.entry.inputs.now in
         IsEncodedTo source.entry.gates.now inputs base source.entry.below (gate + 1)
         board.old → IsEncodedTo source.entry.gates.now inputs base source.entry.below gate
         board.new) }
-    ensures placed { OnOk result (IsPlacedFor source.entry.gates.now source.entry.below
-        board.new) }
+    ensures placed { OnOk result (IsPlacedFor source.entry.gates.now
+        (map (λ xs. xs.items) source.entry.inputs.now) source.entry.below board.new) }
 {
     let Some(variable) = board.names.of_gate(gate) else {
         return Ok(());
@@ -80,7 +57,8 @@ fn say_named_gate(
 fn say_named_gates(alloc: Global, source: Source<'_>, board: &mut Board) -> Result<(), AllocError>
     requires within { source.below < length source.gates.now }
     requires inputs { HaveInputsBelow (length source.inputs.now) source.gates.now }
-    requires placed { IsPlacedFor source.gates.now source.below board.old }
+    requires placed { IsPlacedFor source.gates.now (map (λ xs. xs.items) source.inputs.now)
+        source.below board.old }
     ensures { OnOk result ((base : ℕ) → let inputs = map (λ xs. xs.items)
         source.entry.inputs.now in
         IsEncodedTo source.entry.gates.now inputs base source.entry.below source.entry.below
@@ -127,9 +105,6 @@ pub fn encode(
     say_all(alloc, source, None, &mut board)?;
     say_named_gates(alloc, source, &mut board)?;
     let end = board.names.end();
-    if !are_within(end, board.clauses.as_slice()) {
-        return Err(AllocError);
-    }
     Ok(Encoding {
         clauses: board.clauses,
         end,

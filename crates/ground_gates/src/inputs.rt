@@ -6,7 +6,7 @@ ghost use Rattle.ground_gates.specs.Clauses.{meets_clause};
 ghost use Rattle.ground_gates.specs.declared.gate.Gate.{Gate as AnyGate};
 ghost use Rattle.ground_gates.specs.Literals.{is_false, is_true};
 ghost use Rattle.ground_gates.specs.Meaning.{input_truth, some_part};
-ghost use Rattle.ground_gates.specs.Said.{Goes, HasInput, clauses_in, some_of};
+ghost use Rattle.ground_gates.specs.Said.{AreInputsPlaced, Goes, HasInput, clauses_in, some_of};
 
 use crate::Literal;
 use crate::board::Board;
@@ -34,9 +34,11 @@ pub(crate) fn open_facts(
     literals: &[Literal],
     facts: &[u32],
 ) -> Result<Vec<u32>, AllocError>
-    ensures { IfOk result (λ others. (w : ℕ → Bool) →
+    ensures same { IfOk result (λ others. (w : ℕ → Bool) →
         (meets_clause w literals.now || list_all w facts.now)
         ≡ (meets_clause w literals.now || list_all w others.items)) }
+    ensures some { IfOk result (λ others. (x : ℕ) → Contains others.items x →
+        Contains facts.now x) }
 {
     let mut others = Vec::new(alloc);
     for fact in facts {
@@ -71,7 +73,8 @@ pub(crate) fn name_input(
     input: u32,
     board: &mut Board,
 ) -> Result<u32, AllocError>
-    requires { input < length source.inputs.now }
+    requires input { input < length source.inputs.now }
+    requires placed { AreInputsPlaced (map (λ xs. xs.items) source.inputs.now) board.old }
     ensures { IfOk result (λ variable. (gates : List AnyGate) (j : ℕ) →
         HasInput gates (map (λ xs. xs.items) source.entry.inputs.now) j input board.old
         board.new variable) }

@@ -153,14 +153,12 @@ impl Names {
         Ok(self.base + place)
     }
 
-    /// One variable more, of an input that has none. An input that is not there has no place.
+    /// One variable more, of an input that has none.
     pub(crate) fn add_input(&mut self, input: u32) -> Result<u32, AllocError>
-        requires { HasNoName self.old (Owner.Input input) }
+        requires placed { input < self.old.input_places }
+        requires none { HasNoName self.old (Owner.Input input) }
         ensures { IfOk result (IsInputAdded input self.old self.new) }
     {
-        if input as usize >= self.inputs.len() {
-            return Err(AllocError);
-        }
         let place = self.next()?;
         self.owners.push(Owner::Input(input))?;
         note_place(&mut self.inputs, input, place);

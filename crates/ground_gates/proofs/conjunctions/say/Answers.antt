@@ -5,8 +5,8 @@ use Rattle.ground_gates.proofs.Disjoined.{at_gate}
 use Rattle.ground_gates.proofs.Conjoined.{says_yes, says_no, says_leaf, says_one, says_both, stack_below}
 use Rattle.ground_gates.proofs.conjunctions.say.Goals as goal
 
-pub say_input-requires : goal.say_input-requires
-say_input-requires c =
+pub say_input-requires-clause-input : goal.say_input-requires-clause-input
+say_input-requires-clause-input c =
     let t = c.args.source in
     let lists : List (List ℕ) = map (λ xs. xs.items) t.inputs.now in
     let at = at_gate c.as_slice.result.now t.gates.now c.args.gate (Leaf c.in-Input.literal) c.as_slice.ensures c.requires.within c.in-Input.is in
@@ -39,7 +39,7 @@ returns-in_ok-push-in-No-clause-goes c =
     let lists : List (List ℕ) = map (λ xs. xs.items) t.inputs.now in
     let at = at_gate c.as_slice.result.now t.gates.now c.args.gate (No) c.as_slice.ensures c.requires.within c.in-No.is in
     let pushed = c.in_ok-push-in-No.ensures in
-    says_no t.gates.now lists t.below c.args.gate c.len-count.ensures.placed c.args.board.now c.push.new.self c.args.whole c.args.stack.now.items at pushed.names
+    says_no t.gates.now lists t.below c.args.gate c.len-count.ensures.placed c.args.board.now c.push.new.self c.args.whole c.args.stack.now.items at c.requires.whole pushed.names
     (pushed.clauses ∙ ap (λ ls. clauses_in c.args.board.now ++ ls ∷ []) (c.as_slice-in-No.ensures.value ∙ c.in_ok-literals-in-No.ensures))
 
 pub returns-in_ok-say_input-in-Input-clause-goes : goal.returns-in_ok-say_input-in-Input-clause-goes

@@ -16,4 +16,4 @@ loop-gate-preserved c =
     let asked : (ℕ → Bool) → Bool = λ w. truth t.gates.now lists w k || some_part t.gates.now lists w q in
     apart_on t.gates.now lists t.below c.args.board.now c.args.parts.now now c.add_named.new.board p c.add_named.new.parts asked c.loop-gate.invariant
     (popped t.gates.now lists t.below c.args.board.now c.args.parts.now p q k refl refl c.in-Some.ensures.items)
-    (c.in_ok-add_named.ensures.goes lists) (parts_kept lists t.below q c.add_named.new.parts c.in_ok-add_named.ensures.inputs c.in_ok-add_named.ensures.stack are)
+    (c.in_ok-add_named.ensures.goes lists) (parts_kept lists t.below q c.add_named.new.parts c.in_ok-add_named.ensures.inputs c.in_ok-add_named.ensures.stack are) c.in_ok-add_named.ensures.within

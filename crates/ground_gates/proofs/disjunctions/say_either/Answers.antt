@@ -3,7 +3,10 @@ use Rattle.ground_gates.specs.declared.board.Board.{Board}
 use Rattle.ground_gates.specs.declared.parts.Parts.{Parts}
 use Rattle.ground_gates.specs.Meaning.{some_part, truth, under}
 use Rattle.ground_gates.specs.Said.{Goes, some_of}
-use Rattle.ground_gates.specs.Clauses.{meets_clause}
+use Rattle.ground_gates.specs.declared.gate.Literal.{Literal}
+use Rattle.ground_gates.specs.Names.{end_of}
+use Rattle.ground_gates.specs.Clauses.{HasVarsBelow, meets_clause}
+use Rattle.ground_gates.proofs.VarsBelow.{vars_none}
 use Rattle.ground_gates.proofs.Disjoined.{first_parts, only_literals}
 use Rattle.ground_gates.proofs.Going.{goes_as, goes_pushed, goes_trans}
 use Rattle.ground_gates.proofs.disjunctions.say_either.Goals as goal
@@ -56,4 +59,11 @@ returns c =
     let step3 = goes_trans t.gates.now lists t.below b0 b2 b3 asked (of p2) (of p3) step2 (subst Q c.if-branch-2.false c.in_ok-settle_all.ensures.goes) in
     goes_trans t.gates.now lists t.below b0 b3 c.push.new.self asked (of p3) (λ w. true) step3
     (goes_pushed t.gates.now lists t.below b3 c.push.new.self c.as_slice.result.now (of p3) c.in_ok-push.ensures
+    (let P : List Literal → Type 0 = λ ls. HasVarsBelow (end_of b3.names) ls in subst P (sym c.as_slice.ensures.value) c.in_ok-settle_all.ensures.within)
     (λ w. only_literals t.gates.now lists p3 (c.in_ok-settle_all.ensures.none c.if-branch-2.false) (ap (λ s. s.items) c.in_ok-settle_all.ensures.stack ∙ c.in_ok-name_rest.ensures.none) w ∙ ap (meets_clause w) (sym c.as_slice.ensures.value)))
+
+pub take_apart-requires-clause-within : goal.take_apart-requires-clause-within
+take_apart-requires-clause-within c =
+    let end = end_of c.args.board.now.names in
+    let P : List Literal → Type 0 = λ ls. HasVarsBelow end ls in
+    subst P (sym c.in_ok-parts.ensures.literals) (vars_none end c.args.whole c.requires.whole)

@@ -31,6 +31,6 @@ loop-input-preserved c =
     let (within, are) = are_popped_input t.gates.now lists t.below c.args.board.now c.args.parts.now p q k c.in-Some.ensures.items refl c.loop-input.invariant.0.are in (
       apart_on t.gates.now lists t.below c.args.board.now c.args.parts.now now c.settle.new.board p c.settle.new.parts asked c.loop-input.invariant.0
           (popped_input t.gates.now lists t.below c.args.board.now c.args.parts.now p q k refl c.in-Some.ensures.items refl) (subst P c.if-branch.false (c.in_ok-settle.ensures.goes t.gates.now t.below))
-          (parts_kept lists t.below q c.settle.new.parts c.in_ok-settle.ensures.inputs c.in_ok-settle.ensures.stack are),
+          (parts_kept lists t.below q c.settle.new.parts c.in_ok-settle.ensures.inputs c.in_ok-settle.ensures.stack are) c.in_ok-settle.ensures.within,
       c.in_ok-settle.ensures.stack ∙ c.loop-input.invariant.1,
     )

@@ -29,4 +29,4 @@ loop-step-preserved c =
     let asked : (ℕ → Bool) → Bool = λ w. truth t.gates.now lists w k || some_part t.gates.now lists w q in
     let P : Bool → Type 0 = λ always. Goes t.gates.now lists t.below now c.take.new.board asked (some_of t.gates.now lists always c.take.new.parts) in
     apart_on t.gates.now lists t.below c.args.board.now c.args.parts.now now c.take.new.board p c.take.new.parts asked c.loop-step.invariant
-    (popped t.gates.now lists t.below c.args.board.now c.args.parts.now p q k refl refl c.in-Some.ensures.items) (subst P c.if-branch.false c.in_ok-take.ensures.goes) c.in_ok-take.ensures.are
+    (popped t.gates.now lists t.below c.args.board.now c.args.parts.now p q k refl refl c.in-Some.ensures.items) (subst P c.if-branch.false c.in_ok-take.ensures.goes) c.in_ok-take.ensures.are c.in_ok-take.ensures.within

@@ -17,3 +17,11 @@ loop-step-preserved c =
           subst (P c.say_named_gate.new.board) after
           (c.in_ok-say_named_gate.ensures.encoded base (subst (P c.loop-step.board) before (c.loop-step.invariant.1 base h))),
     )
+
+pub returns : goal.returns
+returns c = λ base h.
+    let t = c.args.source in
+    let lists : List (List ℕ) = map (λ xs. xs.items) t.inputs.now in
+    let last : t.below - c.loop-step.step ≡ 0 = omega (arith, c.loop-step-test.false) in
+    let P : ℕ → Type 0 = λ j. IsEncodedTo t.gates.now lists base t.below j c.loop-step.board in
+    subst P last (c.loop-step.invariant.1 base h)

@@ -13,8 +13,8 @@ invariant_of-self-2 c =
     let own : c.in_ok-place.place ≡ length s.owners.items = place ∙ ap (λ n. length n.owners) (sym c.self.view_is) in
     let base : c.args.self.now.base ≡ s.base = ap (λ n. n.base) (sym c.self.view_is) in
     let N : NamesView → Type 0 = λ names. HasNoName names (Input c.args.input) in
-    let none = subst N (sym c.self.view_is) c.requires in
+    let none = subst N (sym c.self.view_is) c.requires.none in
     let P : List Owner → Type 0 = λ owners. AreNames s.base owners s.gates.items c.note_place.new.table.items in
     let Q : List (Option ℕ) → Type 0 = λ inputs. AreNames s.base (s.owners.items ++ Input c.args.input ∷ []) s.gates.items inputs in
     let table : c.note_place.new.table.items ≡ set s.inputs.items c.args.input (Some (length s.owners.items)) = c.note_place.ensures ∙ ap (λ n. set s.inputs.items c.args.input (Some n)) own in
-    subst P (sym c.in_ok-push.ensures.items) (subst Q (sym table) (input_added s.base s.owners.items s.gates.items s.inputs.items c.self.invariant c.args.input (omega (arith, room, own, base)) (omega (arith, c.if-input-len.false, c.len.ensures)) none))
+    subst P (sym c.in_ok-push.ensures.items) (subst Q (sym table) (input_added s.base s.owners.items s.gates.items s.inputs.items c.self.invariant c.args.input (omega (arith, room, own, base)) (omega (arith, c.requires.placed, ap (λ n. n.input_places) c.self.view_is)) none))
