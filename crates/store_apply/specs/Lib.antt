@@ -1,0 +1,5 @@
+pub mod Applied
+pub mod Laws
+pub mod Notes
+pub mod Public
+pub mod Settling
