@@ -1,53 +1,16 @@
 //! The program as one call.
 //!
-//! `run` answers the words of the command line over the objects that it is handed: a shelf of files
-//! and a sink for the report. It goes through stages: the words, the text and the types of each
-//! file in turn, and the check of the script. The first stage that refuses decides, else the
-//! outcome of the check.
+//! `run` answers the words of the command line over the objects that it is handed: a shelf of files,
+//! a keeper of what is stored, and a sink for the report.
 //!
 //! | module | holds |
 //! |---|---|
 //! | `program` | `run` |
-//! | `laws` | what holds of all answers, and `run` over objects that never fail |
-//! | `status` | `Status`, how a run ended |
-//! | `answer` | `Answer`, what is found or why the words are refused |
-//! | `refusal`, `fault`, `stop` | `Refusal`, `Fault`, and `Stop`, why a stage passes nothing on |
-//! | `words` | the command that the words are |
-//! | `load` | the files that the words name, and the trees that texts are |
-//! | `limits` | how long a file may be, and how many commands `gen` makes |
-//! | `texts` | `check_texts` and its like, over bytes |
-//! | `types`, `users` | the trees with their types, and who still uses a thing |
-//! | `formulas` | the formulas of obligations, for the check |
-//! | `check`, `generated` | the stages of the commands |
-//! | `report`, `pieces` | the texts that are printed |
+//! | `surely` | `run` over objects that never fail |
 #![tactic(auto)]
 
-mod answer;
-mod check;
-mod fault;
-mod formulas;
-mod generated;
-mod laws;
-mod limits;
-mod load;
-mod pieces;
 mod program;
-mod refusal;
-mod report;
-mod status;
-mod stop;
-mod texts;
-mod types;
-mod users;
-mod words;
+mod surely;
 
-pub use answer::{Answer, Checked, Generated};
-pub use fault::Fault;
-pub use laws::{one_script, one_script_of_texts, one_status, run_surely};
-pub use limits::{MOST_FILE_BYTES, limits_are};
 pub use program::run;
-pub use refusal::Refusal;
-pub use report::report_of;
-pub use status::Status;
-pub use stop::Stop;
-pub use texts::{NamedText, check_script_text, check_texts, schema_of_text};
+pub use surely::run_surely;

@@ -1,53 +1,32 @@
 //! The program as one call.
 
-ghost use Rattle.std.specs.Prelude.{◌≡◌, ◌≢◌};
-ghost use Rattle.app_flow.specs.Outside.{IsWritten};
-ghost use Rattle.app_run.specs.Ends.{IsPut, IsSilent};
 ghost use Rattle.app_run.specs.Run.{IsRun};
 
-use crate::answer::Answer;
-use crate::check::answer_to;
-use crate::report::report_of;
-use crate::status::Status;
-use crate::stop::Stop;
-use app_flow::{Shelf, Sink, put_all};
+use app_files::{Status, run_files};
+use app_flow::{Shelf, Sink};
+use app_store::{run_store, store_command_of};
 use std::alloc::Global;
+use store_keeper::Keeper;
 use text_ast::Txt;
 
-/// Puts the report of the answer into `out`.
-fn put_answer<W: Sink>(alloc: Global, answer: &Answer, out: &mut W) -> Status
-    ensures put { IsPut answer.now (W.told out.old) (W.told out.new) result }
-    ensures out { IsWritten W.faults out.old out.new (IsSilent result) (result
-        ≡ Status.WriteFault) }
-    ensures not_read { result ≢ Status.ReadFault }
-{
-    let Ok(report) = report_of(alloc, answer) else {
-        return Status::OutOfMemory;
-    };
-    match put_all(out, report.as_slice()) {
-        Ok(()) => answer.status(),
-        Err(_) => Status::WriteFault,
-    }
-}
-
-/// Checks the script of the words against the specification of the words, and writes what it
-/// finds: that no command gains anybody a right that it does not declare, on any database of any
-/// size, or a witness of the first obligation that fails, or that this obligation could not be
-/// decided.
+/// Carries out the command that the words are: one over the store (`init`, `check SCRIPT`, `apply`,
+/// `show`), or one over files alone (`check SPEC SCRIPT`, `gen N`). Other words get the usage line.
 ///
-/// `gen N` makes a specification of N fields, from 1 to 60, and two scripts that change the
-/// policies of each, checks both, and writes a line on each.
-///
-/// The words are those after the program's name. The files are taken from `shelf`, the report is
-/// put into `out`, and `Status` says what each status means.
-pub fn run<F: Shelf, W: Sink>(alloc: Global, words: &[Txt], shelf: &mut F, out: &mut W) -> Status
-    ensures { IsRun F.told F.calls F.faults W.told W.faults words.now
-        shelf.old shelf.new out.old out.new result }
+/// The words are those after the program's name. The files are taken from `shelf`, what is stored
+/// from `store`, which commands over files alone do not call; the report is put into `out`, and
+/// `Status` says what each status means.
+pub fn run<F: Shelf, K: Keeper, W: Sink>(
+    alloc: Global,
+    words: &[Txt],
+    shelf: &mut F,
+    store: &mut K,
+    out: &mut W,
+) -> Status
+    ensures { IsRun F.told F.calls F.faults K.told K.calls K.faults W.told W.faults words.now
+        shelf.old shelf.new store.old store.new out.old out.new result }
 {
-    match answer_to(alloc, words, shelf) {
-        Ok(answer) => put_answer(alloc, &answer, out),
-        Err(Stop::Refused(refusal)) => put_answer(alloc, &Answer::Refused(refusal), out),
-        Err(Stop::ReadFault) => Status::ReadFault,
-        Err(Stop::OutOfMemory) => Status::OutOfMemory,
+    match store_command_of(words) {
+        Some(command) => run_store(alloc, command, shelf, store, out),
+        None => run_files(alloc, words, shelf, out),
     }
 }

@@ -4,11 +4,19 @@
 //! | module | holds |
 //! |---|---|
 //! | `memory` | `File`, `Ended`, `run_over` and its like, over objects in memory |
-//! | `program` | `run_over_objects`, over any shelf and sink |
+//! | `stored` | what is stored, under another version |
+//! | `texts` | `check_bytes`, over texts that nobody fetches |
+//! | `program` | `run_over_objects`, over any shelf, store and sink |
 #![tactic(auto)]
 
 mod memory;
 mod program;
+mod stored;
+mod texts;
 
-pub use memory::{Ended, File, check_texts, run_failing, run_over, words_of};
+pub use memory::{
+    Ended, Failing, File, check_texts, run_failing, run_over, run_over_store, words_of,
+};
 pub use program::run_over_objects;
+pub use stored::at_last_version;
+pub use texts::check_bytes;

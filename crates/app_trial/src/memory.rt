@@ -1,9 +1,10 @@
 //! The program over objects in memory.
 
 use crate::program::run_over_objects;
+use app_files::Status;
 use app_flow::{MemFile, MemShelf, MemSink};
-use app_run::Status;
 use std::alloc::{AllocError, Global};
+use store_keeper::{Keeper, SureKeeper};
 use text_ast::Txt;
 
 /// How many bytes the output holds at most.
@@ -32,6 +33,15 @@ pub struct Ended {
     pub fetches: u64,
 }
 
+/// Which calls of the shelf and of the output fail, by their numbers from 0.
+#[derive(Clone, Copy)]
+pub struct Failing<'t> {
+    /// The fetches.
+    pub fetches: &'t [u64],
+    /// The puts.
+    pub puts: &'t [u64],
+}
+
 /// The texts as words. One that is no word is left out.
 pub fn words_of(alloc: Global, texts: &[&str]) -> Result<Vec<Txt>, AllocError> {
     let mut words = Vec::new(alloc);
@@ -55,8 +65,33 @@ fn shelf_of(alloc: Global, files: &[File<'_>], failing: &[u64]) -> Result<MemShe
     Ok(MemShelf::new(alloc, kept, Vec::from_slice(alloc, failing)?))
 }
 
-/// Runs the words over the files, with an output that takes at most seven bytes at once. The
-/// fetches and the puts of these numbers, from 0, fail.
+/// Runs the words over the files and the store, with an output that takes at most seven bytes at
+/// once. The fetches and the puts of these numbers, from 0, fail.
+pub fn run_over_store<K: Keeper>(
+    alloc: Global,
+    words: &[&str],
+    files: &[File<'_>],
+    store: &mut K,
+    failing: Failing<'_>,
+) -> Result<Ended, AllocError> {
+    let words = words_of(alloc, words)?;
+    let mut shelf = shelf_of(alloc, files, failing.fetches)?;
+    let mut out = MemSink::new(
+        alloc,
+        OUTPUT_BYTES,
+        PUT_BYTES,
+        Vec::from_slice(alloc, failing.puts)?,
+    )?;
+    let status = run_over_objects(alloc, words.as_slice(), &mut shelf, store, &mut out);
+    Ok(Ended {
+        status,
+        output: Vec::from_slice(alloc, out.bytes())?,
+        fetches: shelf.fetches(),
+    })
+}
+
+/// Runs the words over the files, with a store that holds nothing. The fetches and the puts of
+/// these numbers, from 0, fail.
 pub fn run_failing(
     alloc: Global,
     words: &[&str],
@@ -64,20 +99,8 @@ pub fn run_failing(
     fetches: &[u64],
     puts: &[u64],
 ) -> Result<Ended, AllocError> {
-    let words = words_of(alloc, words)?;
-    let mut shelf = shelf_of(alloc, files, fetches)?;
-    let mut out = MemSink::new(
-        alloc,
-        OUTPUT_BYTES,
-        PUT_BYTES,
-        Vec::from_slice(alloc, puts)?,
-    )?;
-    let status = run_over_objects(alloc, words.as_slice(), &mut shelf, &mut out);
-    Ok(Ended {
-        status,
-        output: Vec::from_slice(alloc, out.bytes())?,
-        fetches: shelf.fetches(),
-    })
+    let mut store = SureKeeper::new(alloc, None);
+    run_over_store(alloc, words, files, &mut store, Failing { fetches, puts })
 }
 
 /// Runs the words over the files, and no call fails.

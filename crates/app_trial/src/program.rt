@@ -1,16 +1,19 @@
-//! The program over any shelf and sink.
+//! The program over any shelf, store and sink.
 
+use app_files::Status;
 use app_flow::{Shelf, Sink};
-use app_run::{Status, run};
+use app_run::run;
 use std::alloc::Global;
+use store_keeper::Keeper;
 use text_ast::Txt;
 
-/// Runs the words over the shelf and the sink, as `run` does.
-pub fn run_over_objects<F: Shelf, W: Sink>(
+/// Runs the words over the shelf, the store and the sink, as `run` does.
+pub fn run_over_objects<F: Shelf, K: Keeper, W: Sink>(
     alloc: Global,
     words: &[Txt],
     shelf: &mut F,
+    store: &mut K,
     out: &mut W,
 ) -> Status {
-    run(alloc, words, shelf, out)
+    run(alloc, words, shelf, store, out)
 }

@@ -1,0 +1,9 @@
+pub mod Before
+pub mod Headline
+pub mod InTurn
+pub mod Joined
+pub mod NoMemory
+pub mod OneStatus
+pub mod Then
+pub mod Turns
+pub mod Written

@@ -1,0 +1,12 @@
+pub mod Answer
+pub mod Ends
+pub mod Generated
+pub mod Headline
+pub mod Loads
+pub mod Public
+pub mod Report
+pub mod Run
+pub mod Stages
+pub mod Status
+pub mod Typed
+pub mod Words

@@ -1,5 +1,0 @@
-use Rattle.std.proofs.Common.{refl}
-use Rattle.app_run.proofs.texts.checked.Goals as goal
-
-pub returns-clause-checked : goal.returns-clause-checked
-returns-clause-checked c = record { script = refl; typed = c.requires; outcome = c.in_ok-outcome.ensures }

@@ -1,0 +1,10 @@
+mod Decided
+mod Finishing
+mod Found
+mod Headline
+mod InitDecided
+mod OneBase
+mod Ran
+mod Run
+mod Staged
+mod Typed

@@ -1,0 +1,16 @@
+pub mod Answer
+pub mod Calls
+pub mod Data
+pub mod Ends
+pub mod Finished
+pub mod Headline
+pub mod Kept
+pub mod Public
+pub mod Ran
+pub mod Report
+pub mod Run
+pub mod Seen
+pub mod Stages
+pub mod Store
+pub mod Told
+pub mod Words
