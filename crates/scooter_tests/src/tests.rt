@@ -6,5 +6,6 @@ mod large;
 mod reads;
 mod rows;
 mod sizes;
+mod store;
 mod surely;
 mod texts;

@@ -1,6 +1,6 @@
 //! The order of refusals, and faults of the shelf and the output.
 
-use app_run::Status;
+use app_files::Status;
 use app_trial::{Ended, File, run_failing};
 use std::alloc::Global;
 use std::test::Fail;
@@ -67,7 +67,7 @@ const REFUSALS: [Row; 22] = [
         fetches: &[0],
         puts: &[],
         status: Status::Usage,
-        output: b"usage: check SPEC SCRIPT, gen N\n",
+        output: b"usage: init SPEC [DATA], check [SPEC] SCRIPT, apply SCRIPT, show, gen N\n",
         fetched: 0,
     },
     Row {
@@ -75,15 +75,15 @@ const REFUSALS: [Row; 22] = [
         fetches: &[0],
         puts: &[],
         status: Status::Usage,
-        output: b"usage: check SPEC SCRIPT, gen N\n",
+        output: b"usage: init SPEC [DATA], check [SPEC] SCRIPT, apply SCRIPT, show, gen N\n",
         fetched: 0,
     },
     Row {
-        words: &["check", "n.spec"],
+        words: &["check", "-s"],
         fetches: &[0],
         puts: &[],
         status: Status::Usage,
-        output: b"usage: check SPEC SCRIPT, gen N\n",
+        output: b"usage: init SPEC [DATA], check [SPEC] SCRIPT, apply SCRIPT, show, gen N\n",
         fetched: 0,
     },
     Row {
@@ -91,7 +91,7 @@ const REFUSALS: [Row; 22] = [
         fetches: &[0],
         puts: &[],
         status: Status::Usage,
-        output: b"usage: check SPEC SCRIPT, gen N\n",
+        output: b"usage: init SPEC [DATA], check [SPEC] SCRIPT, apply SCRIPT, show, gen N\n",
         fetched: 0,
     },
     Row {
@@ -99,7 +99,7 @@ const REFUSALS: [Row; 22] = [
         fetches: &[0],
         puts: &[],
         status: Status::Usage,
-        output: b"usage: check SPEC SCRIPT, gen N\n",
+        output: b"usage: init SPEC [DATA], check [SPEC] SCRIPT, apply SCRIPT, show, gen N\n",
         fetched: 0,
     },
     Row {
@@ -107,7 +107,7 @@ const REFUSALS: [Row; 22] = [
         fetches: &[0],
         puts: &[],
         status: Status::Usage,
-        output: b"usage: check SPEC SCRIPT, gen N\n",
+        output: b"usage: init SPEC [DATA], check [SPEC] SCRIPT, apply SCRIPT, show, gen N\n",
         fetched: 0,
     },
     Row {
@@ -115,7 +115,7 @@ const REFUSALS: [Row; 22] = [
         fetches: &[0],
         puts: &[],
         status: Status::Usage,
-        output: b"usage: check SPEC SCRIPT, gen N\n",
+        output: b"usage: init SPEC [DATA], check [SPEC] SCRIPT, apply SCRIPT, show, gen N\n",
         fetched: 0,
     },
     Row {
@@ -123,7 +123,7 @@ const REFUSALS: [Row; 22] = [
         fetches: &[0],
         puts: &[],
         status: Status::Usage,
-        output: b"usage: check SPEC SCRIPT, gen N\n",
+        output: b"usage: init SPEC [DATA], check [SPEC] SCRIPT, apply SCRIPT, show, gen N\n",
         fetched: 0,
     },
     Row {
@@ -131,7 +131,7 @@ const REFUSALS: [Row; 22] = [
         fetches: &[0],
         puts: &[],
         status: Status::Usage,
-        output: b"usage: check SPEC SCRIPT, gen N\n",
+        output: b"usage: init SPEC [DATA], check [SPEC] SCRIPT, apply SCRIPT, show, gen N\n",
         fetched: 0,
     },
     Row {
@@ -139,7 +139,7 @@ const REFUSALS: [Row; 22] = [
         fetches: &[0],
         puts: &[],
         status: Status::Usage,
-        output: b"usage: check SPEC SCRIPT, gen N\n",
+        output: b"usage: init SPEC [DATA], check [SPEC] SCRIPT, apply SCRIPT, show, gen N\n",
         fetched: 0,
     },
     Row {
@@ -147,7 +147,7 @@ const REFUSALS: [Row; 22] = [
         fetches: &[0],
         puts: &[],
         status: Status::Usage,
-        output: b"usage: check SPEC SCRIPT, gen N\n",
+        output: b"usage: init SPEC [DATA], check [SPEC] SCRIPT, apply SCRIPT, show, gen N\n",
         fetched: 0,
     },
     Row {
@@ -155,7 +155,7 @@ const REFUSALS: [Row; 22] = [
         fetches: &[0],
         puts: &[],
         status: Status::Usage,
-        output: b"usage: check SPEC SCRIPT, gen N\n",
+        output: b"usage: init SPEC [DATA], check [SPEC] SCRIPT, apply SCRIPT, show, gen N\n",
         fetched: 0,
     },
     Row {
@@ -163,7 +163,7 @@ const REFUSALS: [Row; 22] = [
         fetches: &[0],
         puts: &[],
         status: Status::Usage,
-        output: b"usage: check SPEC SCRIPT, gen N\n",
+        output: b"usage: init SPEC [DATA], check [SPEC] SCRIPT, apply SCRIPT, show, gen N\n",
         fetched: 0,
     },
     Row {
@@ -242,7 +242,7 @@ const REFUSALS: [Row; 22] = [
 ];
 
 /// A fault at each call in turn; the output takes seven bytes at a put.
-const FAULTS: [Row; 8] = [
+const CALL_FAULTS: [Row; 8] = [
     Row {
         words: &["check", "n.spec", "s.scm"],
         fetches: &[0],
@@ -319,7 +319,7 @@ fn refusals(rt: HostRuntime) -> Result<(), Fail> {
 
 #[test]
 fn faults(rt: HostRuntime) -> Result<(), Fail> {
-    for row in &FAULTS {
+    for row in &CALL_FAULTS {
         assert!(rt; ends_so(rt.alloc(), row)?);
     }
     Ok(())

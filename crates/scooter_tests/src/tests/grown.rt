@@ -1,14 +1,14 @@
 //! A specification and scripts that grow. Their texts are written here by hand, too.
 
-use app_run::Status;
+use app_files::Status;
 use app_trial::{check_texts, run_over};
 use std::alloc::Global;
 use std::test::Fail;
 
 /// How many commands the scripts have.
-const COMMANDS: u32 = 40;
+const GROWN_COMMANDS: u32 = 40;
 
-const HEAD: &[u8] = b"static Visitor
+const GROWN_HEAD: &[u8] = b"static Visitor
 principal model User { create: none, delete: none }
 principal model Robot { create: none, delete: none }
 model Group { create: none, delete: none }
@@ -24,11 +24,11 @@ model Note {
   group: Id(Group) {read: public, write: none}";
 
 /// What stands before the last filters of a policy.
-const BEFORE: &[u8] = b"n -> Membership::Find({group: n.group}).flat_map(m ->
+const BEFORE_FILTERS: &[u8] = b"n -> Membership::Find({group: n.group}).flat_map(m ->
   Membership::Find({user: m.user}).flat_map(k -> Membership::Find({";
 
 /// What stands behind them.
-const BEHIND: &[u8] = b"}).map(j -> j.user))) + [n.owner]";
+const BEHIND_FILTERS: &[u8] = b"}).map(j -> j.user))) + [n.owner]";
 
 fn put_number(alloc: Global, number: u32, text: &mut Vec<u8>) -> Result<(), Fail> {
     text.extend_from_slice(number.to_string(alloc)?.as_bytes())?;
@@ -36,9 +36,9 @@ fn put_number(alloc: Global, number: u32, text: &mut Vec<u8>) -> Result<(), Fail
 }
 
 fn put_policy(filters: &[u8], text: &mut Vec<u8>) -> Result<(), Fail> {
-    text.extend_from_slice(BEFORE)?;
+    text.extend_from_slice(BEFORE_FILTERS)?;
     text.extend_from_slice(filters)?;
-    text.extend_from_slice(BEHIND)?;
+    text.extend_from_slice(BEHIND_FILTERS)?;
     Ok(())
 }
 
@@ -62,8 +62,8 @@ fn put_field(alloc: Global, number: u32, text: &mut Vec<u8>) -> Result<(), Fail>
 
 /// The specification.
 fn spec(alloc: Global) -> Result<Vec<u8>, Fail> {
-    let mut text = Vec::from_slice(alloc, HEAD)?;
-    for place in 0..COMMANDS {
+    let mut text = Vec::from_slice(alloc, GROWN_HEAD)?;
+    for place in 0..GROWN_COMMANDS {
         put_field(alloc, place + 1, &mut text)?;
     }
     text.extend_from_slice(b"\n}\n")?;
@@ -89,9 +89,14 @@ fn put_command(alloc: Global, number: u32, loosens: bool, text: &mut Vec<u8>) ->
 /// The script, or the one whose last command loosens.
 fn script(alloc: Global, loosens: bool) -> Result<Vec<u8>, Fail> {
     let mut text = Vec::new(alloc);
-    for place in 0..COMMANDS {
+    for place in 0..GROWN_COMMANDS {
         let number = place + 1;
-        put_command(alloc, number, loosens && number == COMMANDS, &mut text)?;
+        put_command(
+            alloc,
+            number,
+            loosens && number == GROWN_COMMANDS,
+            &mut text,
+        )?;
     }
     Ok(text)
 }

@@ -1,19 +1,21 @@
 //! Large files of the real folder, and large reports.
 
+use app_files::{MOST_FILE_BYTES, Status};
 use app_flow::{CurrentFolder, DirShelf, MemSink};
-use app_run::{MOST_FILE_BYTES, Status};
 use app_trial::{check_texts, run_over_objects, words_of};
 use std::alloc::Global;
 use std::test::Fail;
 use std::{fs, str};
+use store_keeper::SureKeeper;
 
 /// What the program answers to the words in the folder that the tests run in.
 fn answer_in_folder(rt: &HostRuntime, words: &[&str]) -> Result<(Status, Vec<u8>), Fail> {
     let alloc = rt.alloc();
     let words = words_of(alloc, words)?;
     let mut shelf = DirShelf::new(CurrentFolder(rt));
+    let mut store = SureKeeper::new(alloc, None);
     let mut out = MemSink::new(alloc, 1000, 7, Vec::new(alloc))?;
-    let status = run_over_objects(alloc, words.as_slice(), &mut shelf, &mut out);
+    let status = run_over_objects(alloc, words.as_slice(), &mut shelf, &mut store, &mut out);
     Ok((status, Vec::from_slice(alloc, out.bytes())?))
 }
 

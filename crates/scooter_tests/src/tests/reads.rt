@@ -1,6 +1,6 @@
 //! What an initialiser reads of a `Find`.
 
-use app_run::Status;
+use app_files::Status;
 use app_trial::check_texts;
 use std::str;
 use std::test::Fail;

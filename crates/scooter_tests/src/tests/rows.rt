@@ -1,10 +1,11 @@
-//! Worked scripts, each with what its check answers.
+//! Worked scripts, each with what its check answers: four tables in one file, since they share
+//! their specifications.
 
-use app_run::Status;
-use app_trial::check_texts;
+use app_files::Status;
+use app_trial::{check_bytes, check_texts};
 use std::test::Fail;
 
-const NOTES: &[u8] = b"static Visitor
+const VISITORS: &[u8] = b"static Visitor
 static Robot
 model Note {
   create: public,
@@ -87,32 +88,32 @@ struct Row {
 
 const ACCEPTED: [Row; 20] = [
     Row {
-        spec: NOTES,
+        spec: VISITORS,
         script: b"",
         status: Status::Done,
         report: b"accepted obligations 0\n",
     },
     Row {
-        spec: NOTES,
+        spec: VISITORS,
         script: b"# nothing\n \t\r\n",
         status: Status::Done,
         report: b"accepted obligations 0\n",
     },
     Row {
-        spec: NOTES,
+        spec: VISITORS,
         script: b"Note::UpdateFieldPolicy(body, {read: n -> [Visitor]})",
         status: Status::Done,
         report: b"accepted obligations 2\n",
     },
     Row {
-        spec: NOTES,
+        spec: VISITORS,
         script: b"Note::UpdateFieldPolicy(body, {write: n -> []})
             Note::UpdateFieldPolicy(body, {read: none, write: none})",
         status: Status::Done,
         report: b"accepted obligations 6\n",
     },
     Row {
-        spec: NOTES,
+        spec: VISITORS,
         script: b"Note::RemoveField(body) DeleteModel(Note) RemoveStatic(Robot)",
         status: Status::Done,
         report: b"accepted obligations 0\n",
@@ -237,21 +238,21 @@ struct LeakRow {
 
 const LEAKS: [LeakRow; 14] = [
     LeakRow {
-        spec: NOTES,
+        spec: VISITORS,
         script: b"Note::UpdateFieldPolicy(body, {write: n -> [Visitor, Robot]})",
         line: "leak command 1 field Note.body right write\n",
         part: "\nprincipal Robot\n",
     },
     // A right that was taken away is a gain when it is given back.
     LeakRow {
-        spec: NOTES,
+        spec: VISITORS,
         script: b"Note::UpdateFieldPolicy(body, {write: none})
             Note::UpdateFieldPolicy(body, {write: n -> [Visitor]})",
         line: "leak command 2 field Note.body right write\n",
         part: "\nprincipal ",
     },
     LeakRow {
-        spec: NOTES,
+        spec: VISITORS,
         script: b"Note::UpdatePolicy({delete: n -> [Robot]})",
         line: "leak command 1 model Note right delete\n",
         part: "\nprincipal ",
@@ -368,19 +369,19 @@ const REFUSED: [Row; 13] = [
         report: b"s.scm: command 1: still used at 12 by User.team type\n",
     },
     Row {
-        spec: NOTES,
+        spec: VISITORS,
         script: b"RemoveStatic(Visitor)",
         status: Status::TypesRefused,
         report: b"s.scm: command 1: still used at 13 by Note.body write\n",
     },
     Row {
-        spec: NOTES,
+        spec: VISITORS,
         script: b"Note::UpdateFieldPolicy(title, {read: none})",
         status: Status::TypesRefused,
         report: b"s.scm: command 1: unknown at 24\n",
     },
     Row {
-        spec: NOTES,
+        spec: VISITORS,
         script: b"AddStatic(Visitor)",
         status: Status::TypesRefused,
         report: b"s.scm: command 1: twice at 10\n",
@@ -410,7 +411,7 @@ const REFUSED: [Row; 13] = [
         report: b"n.spec: unknown at 47\n",
     },
     Row {
-        spec: NOTES,
+        spec: VISITORS,
         script: b"Note::UpdateFieldPolicy(body, {})",
         status: Status::TextRefused,
         report: b"s.scm: not grammar at token 7\n",
@@ -425,7 +426,7 @@ const REFUSED: [Row; 13] = [
 ];
 
 /// Each cause of a fault of typing, at the name or the first token of the part that it is about.
-const FAULTS: [Row; 19] = [
+const TYPING_FAULTS: [Row; 19] = [
     Row {
         spec: USERS,
         script: b"User::AddField(x: Int {read: public, write: none}, u -> u.nope)",
@@ -439,31 +440,31 @@ const FAULTS: [Row; 19] = [
         report: b"s.scm: command 1: wrong type at 56\n",
     },
     Row {
-        spec: NOTES,
+        spec: VISITORS,
         script: b"Note::UpdateFieldPolicy(body, {write: n -> [n]})",
         status: Status::TypesRefused,
         report: b"s.scm: command 1: not principal at 44\n",
     },
     Row {
-        spec: NOTES,
+        spec: VISITORS,
         script: b"CreateModel(model Tag {create: none, delete: none, of: Id(Ghost) {read: none, write: none}})",
         status: Status::TypesRefused,
         report: b"s.scm: command 1: unknown at 58\n",
     },
     Row {
-        spec: NOTES,
+        spec: VISITORS,
         script: b"CreateModel(model Tag {create: t -> [t], delete: none})",
         status: Status::TypesRefused,
         report: b"s.scm: command 1: not principal at 37\n",
     },
     Row {
-        spec: NOTES,
+        spec: VISITORS,
         script: b"CreateModel(model Tag {create: none, delete: none, name: Text {read: t -> [t.name], write: none}})",
         status: Status::TypesRefused,
         report: b"s.scm: command 1: wrong type at 75\n",
     },
     Row {
-        spec: NOTES,
+        spec: VISITORS,
         script: b"CreateModel(model Visitor {create: none, delete: none})",
         status: Status::TypesRefused,
         report: b"s.scm: command 1: twice at 18\n",
@@ -493,13 +494,13 @@ const FAULTS: [Row; 19] = [
         report: b"s.scm: command 1: twice at 60\n",
     },
     Row {
-        spec: NOTES,
+        spec: VISITORS,
         script: b"DeleteModel(User)",
         status: Status::TypesRefused,
         report: b"s.scm: command 1: unknown at 12\n",
     },
     Row {
-        spec: NOTES,
+        spec: VISITORS,
         script: b"Note::UpdatePolicy({create: n -> [Ghost]})",
         status: Status::TypesRefused,
         report: b"s.scm: command 1: unknown at 34\n",
@@ -577,9 +578,28 @@ fn refused_and_undecided_scripts(rt: HostRuntime) -> Result<(), Fail> {
     Ok(())
 }
 
+/// Texts that are handed in, without a file.
+#[test]
+fn texts_that_nobody_fetches(rt: HostRuntime) -> Result<(), Fail> {
+    for (script, word) in [
+        (
+            b"User::UpdateFieldPolicy(email, {read: u -> [u]})".as_slice(),
+            "accepted",
+        ),
+        (
+            b"User::UpdateFieldPolicy(age, {read: public})".as_slice(),
+            "leak",
+        ),
+        (b"User::RemoveField(isAdmin)".as_slice(), "refused"),
+    ] {
+        assert_eq!(rt; check_bytes(rt.alloc(), USERS, script)?, word);
+    }
+    Ok(())
+}
+
 #[test]
 fn faults_of_typing(rt: HostRuntime) -> Result<(), Fail> {
-    for row in &FAULTS {
+    for row in &TYPING_FAULTS {
         let ended = check_texts(rt.alloc(), row.spec, row.script)?;
         assert_eq!(rt; ended.status, row.status);
         assert!(rt; ended.output.as_slice() == row.report);

@@ -1,6 +1,6 @@
 //! Pairs of many sizes, up to the limits of the language, with ample memory.
 
-use app_run::{MOST_FILE_BYTES, Status};
+use app_files::{MOST_FILE_BYTES, Status};
 use app_trial::check_texts;
 use std::alloc::{AllocError, Global};
 use std::test::Fail;

@@ -1,10 +1,12 @@
 //! A run over objects that never fail.
 
+use app_files::Status;
 use app_flow::{MemFile, SureShelf, SureSink};
-use app_run::{Status, run_surely};
+use app_run::run_surely;
 use app_trial::words_of;
 use std::alloc::AllocError;
 use std::test::Fail;
+use store_keeper::SureKeeper;
 
 #[test]
 fn accepted_over_sure_objects(rt: HostRuntime) -> Result<(), Fail> {
@@ -18,8 +20,9 @@ fn accepted_over_sure_objects(rt: HostRuntime) -> Result<(), Fail> {
     }
     let words = words_of(alloc, &["check", "n.spec", "s.scm"])?;
     let mut shelf = SureShelf::new(alloc, files);
+    let mut store = SureKeeper::new(alloc, None);
     let mut out = SureSink::new(alloc, 64)?;
-    let status = run_surely(alloc, words.as_slice(), &mut shelf, &mut out);
+    let status = run_surely(alloc, words.as_slice(), &mut shelf, &mut store, &mut out);
     assert_eq!(rt; status, Status::Done);
     assert!(rt; out.bytes() == Some(b"accepted obligations 0\n".as_slice()));
     Ok(())

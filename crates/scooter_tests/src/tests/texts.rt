@@ -1,6 +1,6 @@
 //! Texts of the whole language that spell a tree, and that are refused for a cause at a place.
 
-use app_run::Status;
+use app_files::Status;
 use app_trial::check_texts;
 use std::alloc::{AllocError, Global};
 use std::test::Fail;
@@ -49,7 +49,7 @@ fn one_cause_and_its_place(rt: HostRuntime) -> Result<(), Fail> {
     Ok(())
 }
 
-const USERS: &[u8] = b"principal model User {
+const USERS_WITH_FRIENDS: &[u8] = b"principal model User {
   create: public,
   delete: none,
   email: Text {read: public, write: u -> [u]},
@@ -107,7 +107,7 @@ fn texts_that_are_read(rt: HostRuntime) -> Result<(), Fail> {
         (b"User::RemoveField(email)", b"accepted obligations 0\n"),
     ];
     for (script, output) in scripts {
-        let ended = check_texts(rt.alloc(), USERS, script)?;
+        let ended = check_texts(rt.alloc(), USERS_WITH_FRIENDS, script)?;
         assert_eq!(rt; ended.status, Status::Done);
         assert!(rt; ended.output.as_slice() == output);
     }

@@ -1,0 +1,5 @@
+//! Tests of scripts on databases, from their texts.
+#![tactic(auto)]
+
+#[cfg(test)]
+mod tests;
