@@ -336,7 +336,7 @@ HEAD = """# Definitions
 What the public contracts speak in: what a reader has to believe. The page is made by `docs/definitions.py` of the files `specs/Public.antt`, which list the definitions of each crate; the words
 are those above each definition. Where no public contract cites a definition itself, the last column has the definitions that do; `-` where nothing does yet.
 
-The promise of the program is `Headline` (app_run, `Headline.antt`). It rests on `IsSecure` and `IsStepSecure` (data_meaning, `Secure.antt`), those on `GainAt` and `FlowAt` (`Gain.antt`), and
+The promise of the program is `Headline` (app_files, `Headline.antt`), and over a store `StoreHeadline` (app_store, `Headline.antt`). They rest on `IsSecure` and `IsStepSecure` (data_meaning, `Secure.antt`), those on `GainAt` and `FlowAt` (`Gain.antt`), and
 those on `allows`, `touched` and `run_to` (`Meaning.antt`, `Touched.antt`, `Run.antt`). Who reads these has read what an answer means.
 
 Layers and crates stand in the order of the data (`ARCHITECTURE.md`). FILE is `crates/CRATE/specs/FILE.antt`.

@@ -7,14 +7,14 @@ use Rattle.certify_clauses.specs.Trees.{Tree, split, clause, theory, IsLawfulSpl
 use Rattle.certify_recheck.specs.declared.line.Line.{Line}
 use Rattle.certify_recheck.specs.declared.line.Line.TheVariants.{Heading, Duty, Split, Clause, Theory, End, Other}
 
--- the first line; the part of a duty over its clauses; a tree over clauses behind a path; the last line
+-- the first line; the part of an obligation over its clauses; a tree over clauses behind a path; the last line
 pub data Due : Type 0 where
   heading : Due
   part : (c : Problem) (duty : ℕ) → Due
   tree : (c : Problem) (path : List Literal) → Due
   ending : Due
 
--- the line is the next one of what is due: it is a first line, that of the duty, lawful where it stands in the tree, or a last line
+-- the line is the next one of what is due: it is a first line, that of the obligation, lawful where it stands in the tree, or a last line
 abbrev pub IsNext : Due → Line → Type 0
 IsNext heading Heading = Unit {0}
 IsNext heading (Duty n) = ⊥
@@ -55,7 +55,7 @@ branches c path Theory = []
 branches c path End = []
 branches c path Other = []
 
--- and of anything: behind the line of a duty, a tree
+-- and of anything: behind the line of an obligation, a tree
 abbrev pub left_of : Due → Line → List Due
 left_of heading l = []
 left_of (part c duty) l = tree c [] ∷ []

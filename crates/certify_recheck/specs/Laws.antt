@@ -6,7 +6,7 @@ use Rattle.certify_recheck.specs.Due.{AreDue, IsFirstBad, Due, lines_of, part}
 use Rattle.certify_recheck.specs.declared.line.Line.{Line}
 use Rattle.certify_recheck.specs.declared.line.Line.TheVariants.{Duty}
 
--- the first lines are those of a duty and of a lawful tree
+-- the first lines are those of an obligation and of a lawful tree
 pub record IsLawfulPart (c : Problem) (duty : ℕ) (ls : List Line) (n : ℕ) : Type 0 where
   pub tree : Tree
   pub lawful : IsLawful c [] tree
@@ -14,7 +14,7 @@ pub record IsLawfulPart (c : Problem) (duty : ℕ) (ls : List Line) (n : ℕ) : 
   pub lines_are : ls ≡ Duty duty ∷ (lines_of tree ++ rest)
   pub count : n ≡ length (lines_of tree) + 1
 
--- the first lines are just what is due where a part is, exactly where they are those of the duty and of a lawful tree
+-- the first lines are just what is due where a part is, exactly where they are those of the obligation and of a lawful tree
 abbrev pub PartsAreLawfulTrees : Type 0
 PartsAreLawfulTrees = (c : Problem) (duty : ℕ) (ls : List Line) (n : ℕ) → AreDue (part c duty ∷ []) ls n ↔ IsLawfulPart c duty ls n
 

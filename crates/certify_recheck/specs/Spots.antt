@@ -34,7 +34,7 @@ module _ (text : List ℕ) (from : Spot) where
   IsRefusal ds OutOfMemory = Unit {0}
 
   module _ (c : Problem) (duty : ℕ) where
-    -- between the two spots stand the line of the duty and those of a lawful tree
+    -- between the two spots stand the line of the obligation and those of a lawful tree
     pub record IsPart (to : Spot) : Type 0 where
       pub tree : Tree
       pub lawful : IsLawful c [] tree
@@ -42,7 +42,7 @@ module _ (text : List ℕ) (from : Spot) where
       pub lines_are : lines_at text from.at ≡ Duty duty ∷ (lines_of tree ++ rest)
       pub spans : Spans (length (lines_of tree) + 1) to
 
-    -- the line of the number is bad where a part of the duty is due, and no part of it stands there
+    -- the line of the number is bad where a part of the obligation is due, and no part of it stands there
     abbrev pub IsFault : RecheckErr → Type 0
     IsFault (BadLine line) = IsBadLine (part c duty ∷ []) line × ((to : Spot) → ¬ IsPart to)
     IsFault OutOfMemory = Unit {0}

@@ -1,4 +1,4 @@
-//! One duty's part of a certificate.
+//! One obligation's part of a certificate.
 
 ghost use Rattle.std.specs.Prelude.{◌≡◌, ◌+◌, ◌<◌, ◌≤◌, ℕ, Bool, [], ◌∷◌, drop, length, IfErr, IfOk, IsTrue, OnOk, ◌↔◌};
 ghost use Rattle.certify_clauses.specs.Problem.{IsLawfulAssignment, Problem};
@@ -15,7 +15,7 @@ use crate::walk::walk;
 use certify_clauses::Clauses;
 use std::alloc::Global;
 
-/// Whether a line is that of a duty.
+/// Whether a line is that of an obligation.
 fn is_duty(line: Line, duty: u32) -> bool
     ensures { (problem : Problem) → IsTrue result ↔ IsNext (part problem duty) line }
 {
@@ -26,7 +26,7 @@ fn is_duty(line: Line, duty: u32) -> bool
     }
 }
 
-/// Goes over a duty's part from a spot on, by what is due.
+/// Goes over an obligation's part from a spot on, by what is due.
 fn pass<C: Clauses>(
     alloc: Global,
     duty: u32,
@@ -55,8 +55,8 @@ fn pass<C: Clauses>(
     walk(alloc, c, &mut told, text, behind)
 }
 
-/// Checks one duty's part of a certificate, a line `duty K` and a lawful tree over the duty's
-/// clauses, from a spot of the text on; gives the spot behind it.
+/// Checks one obligation's part of a certificate, a line `duty K` and a lawful tree over the
+/// obligation's clauses, from a spot of the text on; gives the spot behind it.
 ///
 /// Takes memory for a path and for what its atoms say, and none for the text.
 ///

@@ -1,11 +1,12 @@
-//! The check of a certificate: a text of lines that writes, duty by duty, a lawful tree of splits.
+//! The check of a certificate: a text of lines that writes, obligation by obligation, a lawful
+//! tree of splits.
 //!
 //! - `line`: [`Line`], what a line of a certificate says.
 //! - `number`: numbers without needless zeros.
 //! - `reading`: the whole lines of a text.
 //! - `theories`: whether what a path says has a model.
 //! - `walk`: one line of a tree after another, along a path.
-//! - `checking`: [`recheck`], one duty's part of a certificate.
+//! - `checking`: [`recheck`], one obligation's part of a certificate.
 //! - `spot`, `fault`: [`Spot`] and [`RecheckErr`].
 //! - `laws`: the lines that are due behind a part are those of a lawful tree.
 #![tactic(auto)]

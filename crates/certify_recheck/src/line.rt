@@ -11,7 +11,7 @@ use crate::number::number_of;
 pub enum Line {
     /// `certificate 1`, the first line.
     Heading,
-    /// `duty K`: the part of the duty of this number, from 1 on.
+    /// `duty K`: the part of the obligation of this number, from 1 on.
     Duty(u32),
     /// `split V`: a tree with the variable true and one with it false.
     Split(u32),

@@ -60,6 +60,7 @@ fn verdict_in(
     Ok(verdict)
 }
 
+// Six beside the allocator: the script, what is made once for it, the obligation, what is known.
 /// The verdict on the formula of an obligation.
 fn verdict_on<F: Formulas>(
     alloc: Global,
@@ -144,6 +145,7 @@ fn models_of_cycle(alloc: Global, t: &TScript, cycle: &[u32]) -> Result<Items<Mo
     models_of_sorts(alloc, t, &cycle[..cycle.len().saturating_sub(1)])
 }
 
+// Six beside the allocator: the script, what is made once for it, the obligation, what is known.
 /// What an obligation comes to that is not cleared; None where it is cleared.
 pub fn unsettled<F: Formulas>(
     alloc: Global,

@@ -21,7 +21,7 @@ mod weights;
 const MOST_BYTES: usize = 1_048_576;
 
 /// Users with a manager, and teams of them.
-const COMPANY: &[u8] = b"principal model User {
+const USERS_AND_TEAMS: &[u8] = b"principal model User {
   create: public,
   delete: none,
   email: Text {read: public, write: none},
@@ -37,7 +37,7 @@ model Team {
   lead: Option(Id(User)) {read: public, write: none},
 }";
 
-const USERS: &[u8] = b"User @3 {
+const USER_ROWS: &[u8] = b"User @3 {
   @1 {email: \"a@x\", age: 30, isAdmin: true, secret: \"s1\", manager: @1}
   @2 {email: \"b@x\", age: 20, isAdmin: false, secret: \"s2\", manager: @1}
 }
@@ -50,7 +50,7 @@ const OTHER_ORDER: &[u8] = b"# the users
 User@3{@2{age:20,email:\"b@x\",secret:\"s2\",isAdmin:false,manager:@ 1}
   @1 {manager: @1, email: \"\\x61@x\", age: 30, isAdmin: true, secret: \"s1\"}}";
 
-const TEAMS: &[u8] = b"User @2 {
+const TEAM_ROWS: &[u8] = b"User @2 {
   @1 {email: \"\", age: -1, isAdmin: true, secret: \"\", manager: @1}
 }
 Team @9 {
@@ -62,7 +62,7 @@ Team @9 {
 fn company(alloc: Global) -> Result<Schema, Fail>
     ensures { IfOk result (λ s. IsProper (schema_of s)) }
 {
-    let spec = parse_spec(alloc, COMPANY)?;
+    let spec = parse_spec(alloc, USERS_AND_TEAMS)?;
     Ok(type_spec(alloc, &spec)?)
 }
 
@@ -135,9 +135,9 @@ fn texts_are_read(rt: HostRuntime) -> Result<(), Fail> {
     let alloc = rt.alloc();
     let s = company(alloc)?;
     let cases: [(&[u8], &[u8]); 4] = [
-        (USERS, USERS),
-        (OTHER_ORDER, USERS),
-        (TEAMS, TEAMS),
+        (USER_ROWS, USER_ROWS),
+        (OTHER_ORDER, USER_ROWS),
+        (TEAM_ROWS, TEAM_ROWS),
         (b"", b"User @1 {\n}\nTeam @1 {\n}\n"),
     ];
     assert_eq!(rt; printed(alloc, &s, &cases)?, 4);

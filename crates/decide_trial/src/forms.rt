@@ -11,7 +11,7 @@ use std::alloc::{AllocError, Global};
 const MOST_TRIAL_NODES: usize = 1_000_000;
 
 /// How many parts of a formula stand below each other at most.
-const MOST_LEVELS: u32 = 10_000;
+const MOST_DEPTH: u32 = 10_000;
 
 /// An arena that takes what is well formed. What is not counts as memory that is not there.
 #[derive(Drop)]
@@ -182,7 +182,7 @@ impl Forms {
             arena: &self.arena,
             sorts: &[],
         };
-        if !is_over(alloc, scope, id, MOST_LEVELS)? {
+        if !is_over(alloc, scope, id, MOST_DEPTH)? {
             return Err(AllocError);
         }
         decide(alloc, &mut self.arena, id, signature)

@@ -9,7 +9,7 @@ use sqlite_items::Items;
 use std::alloc::AllocError;
 
 /// How many functions, or set relations, numbers of 32 bits do not serve for.
-const TOO_MANY: usize = 4_294_967_296;
+const TOO_MANY_TO_NUMBER: usize = 4_294_967_296;
 
 /// Whether the sort that a function gives elements of, if it does, is there.
 fn has_range(sorts: u32, to: Range) -> bool
@@ -40,8 +40,8 @@ fn are_relations(sorts: u32, sets: &[SetSig]) -> bool
 fn is_signature(sorts: u32, funs: &[FunSig], sets: &[SetSig]) -> bool
     ensures { result ≡ is_signature sorts funs.now sets.now }
 {
-    funs.len() < TOO_MANY
-        && sets.len() < TOO_MANY
+    funs.len() < TOO_MANY_TO_NUMBER
+        && sets.len() < TOO_MANY_TO_NUMBER
         && are_functions(sorts, funs)
         && are_relations(sorts, sets)
 }

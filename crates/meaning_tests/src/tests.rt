@@ -25,10 +25,10 @@ mod read_back;
 mod written;
 
 /// How long a text of these tests may be.
-const MOST_BYTES: usize = 65_536;
+const LONGEST_TEXT: usize = 65_536;
 
 /// Users with a secret for admins, and a manager who may read who manages them.
-const USERS: &[u8] = b"principal model User {
+const SECRETS: &[u8] = b"principal model User {
   create: public,
   delete: none,
   email: Text {read: public, write: u -> [u]},
@@ -40,7 +40,7 @@ const USERS: &[u8] = b"principal model User {
 
 /// The specification that the text spells.
 fn spec_of(alloc: Global, text: &[u8]) -> Result<Spec, Fail> {
-    if text.len() > MOST_BYTES {
+    if text.len() > LONGEST_TEXT {
         return Err(Fail::new("too long"));
     }
     Ok(parse_spec(alloc, text)?)
@@ -48,7 +48,7 @@ fn spec_of(alloc: Global, text: &[u8]) -> Result<Spec, Fail> {
 
 /// The script that the text spells.
 fn script_of(alloc: Global, text: &[u8]) -> Result<Script, Fail> {
-    if text.len() > MOST_BYTES {
+    if text.len() > LONGEST_TEXT {
         return Err(Fail::new("too long"));
     }
     Ok(parse_script(alloc, text)?)
@@ -110,7 +110,7 @@ fn script_over(alloc: Global, schema: &Schema, script: &Script) -> Result<TScrip
 fn typed(alloc: Global, text: &[u8]) -> Result<TScript, Fail>
     ensures { IfOk result (λ t. IsScript (view.script_of t)) }
 {
-    let schema = schema_of_text(alloc, USERS)?;
+    let schema = schema_of_text(alloc, SECRETS)?;
     let script = script_of(alloc, text)?;
     script_over(alloc, &schema, &script)
 }

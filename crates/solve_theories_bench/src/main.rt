@@ -14,7 +14,7 @@ mod variables;
 
 use crate::drive::drive;
 use crate::terms::{TERMS, equalities};
-use crate::variables::{VARIABLES, differences};
+use crate::variables::{ORDER_VARIABLES, differences};
 use solve_equality::Equality;
 use solve_order::Order;
 use solve_theory::{LitBuf, Theory};
@@ -43,11 +43,11 @@ fn time_equality(rt: &HostRuntime) -> io::Result<()> {
 /// Prints how long `Order` takes.
 fn time_order(rt: &HostRuntime) -> io::Result<()> {
     let literals = differences(rt.alloc(), LITERALS)?;
-    let mut theory = Order::new(rt.alloc(), VARIABLES, LITERALS)?;
+    let mut theory = Order::new(rt.alloc(), ORDER_VARIABLES, LITERALS)?;
     let mut core = LitBuf::new(rt.alloc(), LITERALS)?;
     let start = Instant::now(rt)?;
     let conflicts = drive(&mut theory, literals.as_slice(), &mut core);
     let time = start.elapsed(rt)?.as_micros();
-    println!(rt; "order: {LITERALS} assertions and undos, {VARIABLES} variables")?;
+    println!(rt; "order: {LITERALS} assertions and undos, {ORDER_VARIABLES} variables")?;
     eprintln!(rt; "order: {time} microseconds, {conflicts} conflicts")
 }

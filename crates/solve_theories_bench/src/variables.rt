@@ -7,9 +7,9 @@ use solve_order::Diff;
 use std::alloc::{AllocError, Global};
 
 /// How many variables there are.
-pub const VARIABLES: usize = 400;
+pub const ORDER_VARIABLES: usize = 400;
 
-/// So many literals of variables below `VARIABLES`, in a sequence that looks random.
+/// So many literals of variables below `ORDER_VARIABLES`, in a sequence that looks random.
 pub fn differences(alloc: Global, count: usize) -> Result<Vec<Diff>, AllocError>
     ensures { IfOk result (λ ls. (length ls.items ≡ count) ×
         All (λ l. IsTrue (is_literal 400 l)) ls.items) }

@@ -99,6 +99,7 @@ fn negation(alloc: Global, s: &Schema, inner: &TExpr) -> Result<Expr, AllocError
     }
 }
 
+// Long, since each form of an expression has its own arm.
 /// The expression.
 #[cycle(writing)]
 fn written_expr(alloc: Global, s: &Schema, e: &TExpr) -> Result<Expr, AllocError>
@@ -251,6 +252,7 @@ fn written_filters(
     Ok(Items::from_vec(all))
 }
 
+// Long, since each form of a set has its own arm.
 /// The set.
 #[cycle(writing)]
 pub fn written_set(alloc: Global, s: &Schema, set: &TSet) -> Result<SetExpr, AllocError>

@@ -98,7 +98,7 @@ fn the_record_that_is_made(rt: HostRuntime) -> Result<(), Fail> {
 
 /// Fields of a record of users, 0, or of teams, 1, by what refuses them: the name that is unknown,
 /// counted from 0, or the number of the field that has no value.
-const REFUSED: &[(&str, &str, usize, &str)] = &[
+const REFUSED_ROWS: &[(&str, &str, usize, &str)] = &[
     (
         "unknown_at, the first of two",
         "name 1",
@@ -299,7 +299,7 @@ fn told(alloc: Global, s: &Schema, model: usize, fields: &[FieldLit]) -> Result<
 fn each_shape_refuses(rt: HostRuntime) -> Result<(), Fail> {
     let alloc = rt.alloc();
     let s = company(alloc)?;
-    for (place, wanted, model, fields) in REFUSED {
+    for (place, wanted, model, fields) in REFUSED_ROWS {
         let text = format!(in alloc; "Any @2 {{@1 {fields}}}")?;
         let tables = tables_of(alloc, text.as_bytes())?;
         let table = tables.get(0).ok_or("no table")?;

@@ -9,7 +9,7 @@ use std::alloc::{AllocError, Global};
 const MOST_QUANTIFIERS: u32 = 3;
 
 /// How many connectives and quantifiers stand below each other at most.
-const MOST_LEVELS: u32 = 5;
+const MOST_NESTED: u32 = 5;
 
 /// A variable, and the sort of its quantifier.
 #[derive(Clone, Copy)]
@@ -173,9 +173,9 @@ impl Writer {
 
     /// A closed formula: some of these, all of which are to be true.
     pub(crate) fn whole(&mut self) -> Result<u32, AllocError> {
-        let mut whole = self.formula(MOST_LEVELS)?;
+        let mut whole = self.formula(MOST_NESTED)?;
         for _ in 0..self.random.below(4) {
-            let other = self.formula(MOST_LEVELS)?;
+            let other = self.formula(MOST_NESTED)?;
             whole = self.forms.and(whole, other)?;
         }
         Ok(whole)

@@ -9,7 +9,7 @@ use std::alloc::{AllocError, Global};
 use std::test::Fail;
 
 /// How many elements of each sort are named: their pairs have some 2,500,000 pairs.
-const ELEMENTS: u32 = 40;
+const NAMED_ELEMENTS: u32 = 40;
 
 /// Each two elements are related or not.
 fn every_pair(forms: &mut Forms) -> Result<u32, AllocError> {
@@ -31,7 +31,7 @@ fn many(alloc: Global, differ: bool) -> Result<Kind, AllocError> {
     let first = forms.bound(0, 0)?;
     let second = forms.bound(0, 1)?;
     let one = forms.equal(first, second)?;
-    let holder = forms.bound(1, ELEMENTS)?;
+    let holder = forms.bound(1, NAMED_ELEMENTS)?;
     let holds = forms.has(0, holder, first)?;
     let mut other = forms.has(0, holder, second)?;
     if differ {
@@ -39,10 +39,10 @@ fn many(alloc: Global, differ: bool) -> Result<Kind, AllocError> {
     }
     let whole = forms.and(one, holds)?;
     let mut whole = forms.and(whole, other)?;
-    for _ in 0..ELEMENTS {
+    for _ in 0..NAMED_ELEMENTS {
         whole = forms.exists(1, whole)?;
     }
-    for _ in 0..ELEMENTS {
+    for _ in 0..NAMED_ELEMENTS {
         whole = forms.exists(0, whole)?;
     }
     let whole = forms.and(all, whole)?;

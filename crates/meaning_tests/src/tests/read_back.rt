@@ -1,6 +1,6 @@
 //! Printed databases and witnesses, read back.
 
-use crate::tests::{USERS, schema_of_text, typed};
+use crate::tests::{SECRETS, schema_of_text, typed};
 use check_report::print_witness;
 use check_report_back::{read_witness, schemas_are_numbered};
 use data_back::read_printed;
@@ -25,7 +25,7 @@ const DANGLING: &[u8] = b"User @3 {
 #[test]
 fn a_printed_database_is_read(rt: HostRuntime) -> Result<(), Fail> {
     let alloc = rt.alloc();
-    let schema = schema_of_text(alloc, USERS)?;
+    let schema = schema_of_text(alloc, SECRETS)?;
     schemas_are_numbered();
     let database = read_printed(alloc, TWO, &schema)?.ok_or("not read")?;
     assert!(rt; database.has(0, 2));

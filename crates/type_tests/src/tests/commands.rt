@@ -6,7 +6,7 @@ use std::alloc::Global;
 use std::test::Fail;
 
 /// Names and parts of commands, by what refuses them.
-const PARTS: &[(&str, &str, &str)] = &[
+const COMMAND_PARTS: &[(&str, &str, &str)] = &[
     (
         "known_model, DeleteModel",
         "unknown",
@@ -392,7 +392,7 @@ const FREE: &[(&str, &str)] = &[
 
 #[test]
 fn each_place_of_commands_refuses(rt: HostRuntime) -> Result<(), Fail> {
-    for (place, cause, script) in PARTS {
+    for (place, cause, script) in COMMAND_PARTS {
         let (told, wanted) = of_script(rt.alloc(), APP, cause, "", script)?;
         assert_eq!(rt; told.as_str(), wanted.as_str(), "of {place}");
     }

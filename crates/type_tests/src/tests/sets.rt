@@ -5,7 +5,7 @@ use crate::tests::texts::of_script;
 use std::test::Fail;
 
 /// Sets as create policies of users.
-const SETS: &[(&str, &str, &str)] = &[
+const SET_PARTS: &[(&str, &str, &str)] = &[
     (
         "may_hold, records that are no principals",
         "not principal",
@@ -267,7 +267,7 @@ const SETS: &[(&str, &str, &str)] = &[
 
 #[test]
 fn each_place_of_sets_refuses(rt: HostRuntime) -> Result<(), Fail> {
-    for (place, cause, text) in SETS {
+    for (place, cause, text) in SET_PARTS {
         let script = format!(in rt.alloc(); "User::UpdatePolicy({{create: {text}}})")?;
         let (told, wanted) = of_script(rt.alloc(), APP, cause, "", script.as_str())?;
         assert_eq!(rt; told.as_str(), wanted.as_str(), "of {place}");

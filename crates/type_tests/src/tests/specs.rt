@@ -12,7 +12,7 @@ use type_specs::resolved_spec;
 use type_typing::TypeErr;
 
 /// Parts of specifications, by what refuses them.
-const PARTS: &[(&str, &str, &str)] = &[
+const SPEC_PARTS: &[(&str, &str, &str)] = &[
     ("new_static", "twice", "static A static B static ^A"),
     (
         "new_model, the name of a static",
@@ -98,7 +98,7 @@ const PARTS: &[(&str, &str, &str)] = &[
 
 #[test]
 fn each_place_of_specifications_refuses(rt: HostRuntime) -> Result<(), Fail> {
-    for (place, cause, text) in PARTS {
+    for (place, cause, text) in SPEC_PARTS {
         let (told, wanted) = of_spec(rt.alloc(), cause, text)?;
         assert_eq!(rt; told.as_str(), wanted.as_str(), "of {place}");
     }

@@ -9,7 +9,7 @@ use type_scripts::{step_command, type_spec};
 use type_typing::{TypeErr, UsedBy};
 
 /// How long a text of these tests may be.
-const MOST_BYTES: usize = 65_536;
+const LONGEST_TEXT: usize = 65_536;
 
 /// A set of 24,571 nodes: its test has 11 signs. A truth value has one node, and each sign and the
 /// choice make 5 more than twice as many.
@@ -25,14 +25,14 @@ const LARGE_FLAG: &str =
     "(((((((((((true == true) == true) == true) == true) == true) == true) == true) == true) == true) == true) == true) == true";
 
 fn spec_of(alloc: Global, text: &str) -> Result<Spec, SyntaxErr> {
-    if text.len() > MOST_BYTES {
+    if text.len() > LONGEST_TEXT {
         return Err(SyntaxErr::OutOfMemory);
     }
     parse_spec(alloc, text.as_bytes())
 }
 
 fn script_of(alloc: Global, text: &str) -> Result<Script, SyntaxErr> {
-    if text.len() > MOST_BYTES {
+    if text.len() > LONGEST_TEXT {
         return Err(SyntaxErr::OutOfMemory);
     }
     parse_script(alloc, text.as_bytes())
