@@ -1,4 +1,5 @@
 pub mod Chains
+pub mod Negations
 pub mod Places
 pub mod Public
 pub mod Spending

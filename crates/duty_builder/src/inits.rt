@@ -16,10 +16,11 @@ ghost use Rattle.duty_builder.specs.Spending.{Spends, use_sizes};
 ghost use Rattle.duty_builder.specs.Values.{schema_in, written_in, written_upto, scene_data};
 
 use crate::counts::count_init;
-use crate::formulas::{ask, write};
+use crate::formulas::write;
 use crate::policies::MOST_FUEL;
 use crate::start::Start;
 use crate::values::{End, Goal, Part, Scene, Source, Steps, Use, Who};
+use crate::walking::ask;
 use duty_meaning::limits::LARGEST_SIZE;
 use duty_writer::{MakeErr, Mode, Term, Writer};
 use form_formula::Arena;

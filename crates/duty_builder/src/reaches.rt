@@ -13,10 +13,12 @@ ghost use Rattle.duty_builder.specs.Places.{use_data, place_data, each_formula, 
 ghost use Rattle.duty_builder.specs.Values.{schema_in, written_in, scene_data, end_data, part_data};
 ghost use Rattle.duty_builder.specs.Values.{end_formula};
 
-use crate::formulas::{condition, join, walk, write};
+use crate::conditions::condition;
+use crate::formulas::{join, write};
 use crate::places::{Place, place_of};
 use crate::start::Start;
 use crate::values::{End, Goal, Part, Scene, Source, Steps, Use, Who, below, deeper};
+use crate::walking::walk;
 use duty_writer::{MakeErr, Term, Writer};
 use type_schema::{ModelNo, TExpr, TSet};
 

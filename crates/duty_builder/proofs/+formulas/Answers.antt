@@ -33,20 +33,20 @@ use Rattle.duty_builder.proofs.Asked.{left_le, both_le, part_later, part_made, e
 use Rattle.duty_builder.proofs.Counting.{made_for, size-flag, size-has, size-present}
 use Rattle.duty_builder.proofs.+formulas.Goals as goal
 
-pub formulas::ask-returns-in_err-fuel : goal.formulas::ask-returns-in_err-fuel
-formulas::ask-returns-in_err-fuel t c =
+pub walking::ask-returns-in_err-fuel : goal.walking::ask-returns-in_err-fuel
+walking::ask-returns-in_err-fuel t c =
     let p = err_from_is_err_and c.from_residual.result c.from_residual.ensures.1 in rw (p.1, p.2) tt
 
-pub formulas::ask_end-returns-in_err-fuel : goal.formulas::ask_end-returns-in_err-fuel
-formulas::ask_end-returns-in_err-fuel t c =
+pub walking::ask_end-returns-in_err-fuel : goal.walking::ask_end-returns-in_err-fuel
+walking::ask_end-returns-in_err-fuel t c =
     let p = err_from_is_err_and c.from_residual.result c.from_residual.ensures.1 in rw (p.1, p.2) tt
 
 pub formulas::ask_where-returns-in_err-fuel : goal.formulas::ask_where-returns-in_err-fuel
 formulas::ask_where-returns-in_err-fuel t c =
     let p = err_from_is_err_and c.from_residual.result c.from_residual.ensures.1 in rw (p.1, p.2) tt
 
-pub formulas::at_term-returns-in_err-fuel : goal.formulas::at_term-returns-in_err-fuel
-formulas::at_term-returns-in_err-fuel t c =
+pub ends::at_term-returns-in_err-fuel : goal.ends::at_term-returns-in_err-fuel
+ends::at_term-returns-in_err-fuel t c =
     let p = err_from_is_err_and c.from_residual.result c.from_residual.ensures.1 in rw (p.1, p.2) tt
 
 pub formulas::choose-returns-in_err-fuel : goal.formulas::choose-returns-in_err-fuel
@@ -57,108 +57,108 @@ pub formulas::choose_ask-returns-in_err-fuel : goal.formulas::choose_ask-returns
 formulas::choose_ask-returns-in_err-fuel t c =
     let p = err_from_is_err_and c.from_residual.result c.from_residual.ensures.1 in rw (p.1, p.2) tt
 
-pub formulas::choose_set-returns-in_err-fuel : goal.formulas::choose_set-returns-in_err-fuel
-formulas::choose_set-returns-in_err-fuel t c =
+pub ends::choose_set-returns-in_err-fuel : goal.ends::choose_set-returns-in_err-fuel
+ends::choose_set-returns-in_err-fuel t c =
     let p = err_from_is_err_and c.from_residual.result c.from_residual.ensures.1 in rw (p.1, p.2) tt
 
-pub formulas::compare-returns-in_err-fuel : goal.formulas::compare-returns-in_err-fuel
-formulas::compare-returns-in_err-fuel t c =
+pub conditions::compare-returns-in_err-fuel : goal.conditions::compare-returns-in_err-fuel
+conditions::compare-returns-in_err-fuel t c =
     let p = err_from_is_err_and c.from_residual.result c.from_residual.ensures.1 in rw (p.1, p.2) tt
 
-pub formulas::condition-returns-in_err-fuel : goal.formulas::condition-returns-in_err-fuel
-formulas::condition-returns-in_err-fuel t c =
+pub conditions::condition-returns-in_err-fuel : goal.conditions::condition-returns-in_err-fuel
+conditions::condition-returns-in_err-fuel t c =
     let p = err_from_is_err_and c.from_residual.result c.from_residual.ensures.1 in rw (p.1, p.2) tt
 
-pub formulas::end_has-returns-in_err-fuel : goal.formulas::end_has-returns-in_err-fuel
-formulas::end_has-returns-in_err-fuel t c =
+pub ends::end_has-returns-in_err-fuel : goal.ends::end_has-returns-in_err-fuel
+ends::end_has-returns-in_err-fuel t c =
     let p = err_from_is_err_and c.from_residual.result c.from_residual.ensures.1 in rw (p.1, p.2) tt
 
-pub formulas::end_holds-returns-in_err-fuel : goal.formulas::end_holds-returns-in_err-fuel
-formulas::end_holds-returns-in_err-fuel t c =
+pub ends::end_holds-returns-in_err-fuel : goal.ends::end_holds-returns-in_err-fuel
+ends::end_holds-returns-in_err-fuel t c =
     let p = err_from_is_err_and c.from_residual.result c.from_residual.ensures.1 in rw (p.1, p.2) tt
 
-pub formulas::end_term-returns-in_err-fuel : goal.formulas::end_term-returns-in_err-fuel
-formulas::end_term-returns-in_err-fuel t c =
+pub ends::end_term-returns-in_err-fuel : goal.ends::end_term-returns-in_err-fuel
+ends::end_term-returns-in_err-fuel t c =
     let p = err_from_is_err_and c.from_residual.result c.from_residual.ensures.1 in rw (p.1, p.2) tt
 
-pub formulas::equal-returns-in_err-fuel : goal.formulas::equal-returns-in_err-fuel
-formulas::equal-returns-in_err-fuel t c =
+pub conditions::equal-returns-in_err-fuel : goal.conditions::equal-returns-in_err-fuel
+conditions::equal-returns-in_err-fuel t c =
     let p = err_from_is_err_and c.from_residual.result c.from_residual.ensures.1 in rw (p.1, p.2) tt
 
-pub formulas::field-returns-in_err-fuel : goal.formulas::field-returns-in_err-fuel
-formulas::field-returns-in_err-fuel t c =
+pub walking::field-returns-in_err-fuel : goal.walking::field-returns-in_err-fuel
+walking::field-returns-in_err-fuel t c =
     let p = err_from_is_err_and c.from_residual.result c.from_residual.ensures.1 in rw (p.1, p.2) tt
 
-pub formulas::finish-returns-in_err-fuel : goal.formulas::finish-returns-in_err-fuel
-formulas::finish-returns-in_err-fuel t c =
+pub ends::finish-returns-in_err-fuel : goal.ends::finish-returns-in_err-fuel
+ends::finish-returns-in_err-fuel t c =
     let p = err_from_is_err_and c.from_residual.result c.from_residual.ensures.1 in rw (p.1, p.2) tt
 
-pub formulas::flat-returns-in_err-fuel : goal.formulas::flat-returns-in_err-fuel
-formulas::flat-returns-in_err-fuel t c =
+pub members::flat-returns-in_err-fuel : goal.members::flat-returns-in_err-fuel
+members::flat-returns-in_err-fuel t c =
     let p = err_from_is_err_and c.from_residual.result c.from_residual.ensures.1 in rw (p.1, p.2) tt
 
-pub formulas::get-returns-in_err-fuel : goal.formulas::get-returns-in_err-fuel
-formulas::get-returns-in_err-fuel t c =
+pub walking::get-returns-in_err-fuel : goal.walking::get-returns-in_err-fuel
+walking::get-returns-in_err-fuel t c =
     let p = err_from_is_err_and c.from_residual.result c.from_residual.ensures.1 in rw (p.1, p.2) tt
 
-pub formulas::holds-returns-in_err-fuel : goal.formulas::holds-returns-in_err-fuel
-formulas::holds-returns-in_err-fuel t c =
+pub conditions::holds-returns-in_err-fuel : goal.conditions::holds-returns-in_err-fuel
+conditions::holds-returns-in_err-fuel t c =
     let p = err_from_is_err_and c.from_residual.result c.from_residual.ensures.1 in rw (p.1, p.2) tt
 
 pub formulas::join-returns-in_err-fuel : goal.formulas::join-returns-in_err-fuel
 formulas::join-returns-in_err-fuel t c =
     let p = err_from_is_err_and c.from_residual.result c.from_residual.ensures.1 in rw (p.1, p.2) tt
 
-pub formulas::less-returns-in_err-fuel : goal.formulas::less-returns-in_err-fuel
-formulas::less-returns-in_err-fuel t c =
+pub conditions::less-returns-in_err-fuel : goal.conditions::less-returns-in_err-fuel
+conditions::less-returns-in_err-fuel t c =
     let p = err_from_is_err_and c.from_residual.result c.from_residual.ensures.1 in rw (p.1, p.2) tt
 
-pub formulas::listed-returns-in_err-fuel : goal.formulas::listed-returns-in_err-fuel
-formulas::listed-returns-in_err-fuel t c =
+pub members::listed-returns-in_err-fuel : goal.members::listed-returns-in_err-fuel
+members::listed-returns-in_err-fuel t c =
     let p = err_from_is_err_and c.from_residual.result c.from_residual.ensures.1 in rw (p.1, p.2) tt
 
-pub formulas::mapped-returns-in_err-fuel : goal.formulas::mapped-returns-in_err-fuel
-formulas::mapped-returns-in_err-fuel t c =
+pub members::mapped-returns-in_err-fuel : goal.members::mapped-returns-in_err-fuel
+members::mapped-returns-in_err-fuel t c =
     let p = err_from_is_err_and c.from_residual.result c.from_residual.ensures.1 in rw (p.1, p.2) tt
 
-pub formulas::meets-returns-in_err-fuel : goal.formulas::meets-returns-in_err-fuel
-formulas::meets-returns-in_err-fuel t c =
+pub filters::meets-returns-in_err-fuel : goal.filters::meets-returns-in_err-fuel
+filters::meets-returns-in_err-fuel t c =
     let p = err_from_is_err_and c.from_residual.result c.from_residual.ensures.1 in rw (p.1, p.2) tt
 
-pub formulas::member-returns-in_err-fuel : goal.formulas::member-returns-in_err-fuel
-formulas::member-returns-in_err-fuel t c =
+pub members::member-returns-in_err-fuel : goal.members::member-returns-in_err-fuel
+members::member-returns-in_err-fuel t c =
     let p = err_from_is_err_and c.from_residual.result c.from_residual.ensures.1 in rw (p.1, p.2) tt
 
-pub formulas::pass-returns-in_err-fuel : goal.formulas::pass-returns-in_err-fuel
-formulas::pass-returns-in_err-fuel t c =
+pub filters::pass-returns-in_err-fuel : goal.filters::pass-returns-in_err-fuel
+filters::pass-returns-in_err-fuel t c =
     let p = err_from_is_err_and c.from_residual.result c.from_residual.ensures.1 in rw (p.1, p.2) tt
 
-pub formulas::same-returns-in_err-fuel : goal.formulas::same-returns-in_err-fuel
-formulas::same-returns-in_err-fuel t c =
+pub conditions::same-returns-in_err-fuel : goal.conditions::same-returns-in_err-fuel
+conditions::same-returns-in_err-fuel t c =
     let p = err_from_is_err_and c.from_residual.result c.from_residual.ensures.1 in rw (p.1, p.2) tt
 
-pub formulas::take_apart-returns-in_err-fuel : goal.formulas::take_apart-returns-in_err-fuel
-formulas::take_apart-returns-in_err-fuel t c =
+pub walking::take_apart-returns-in_err-fuel : goal.walking::take_apart-returns-in_err-fuel
+walking::take_apart-returns-in_err-fuel t c =
     let p = err_from_is_err_and c.from_residual.result c.from_residual.ensures.1 in rw (p.1, p.2) tt
 
-pub formulas::walk-returns-in_err-fuel : goal.formulas::walk-returns-in_err-fuel
-formulas::walk-returns-in_err-fuel t c =
+pub walking::walk-returns-in_err-fuel : goal.walking::walk-returns-in_err-fuel
+walking::walk-returns-in_err-fuel t c =
     let p = err_from_is_err_and c.from_residual.result c.from_residual.ensures.1 in rw (p.1, p.2) tt
 
-pub formulas::wrap-returns-in_err-fuel : goal.formulas::wrap-returns-in_err-fuel
-formulas::wrap-returns-in_err-fuel t c =
+pub walking::wrap-returns-in_err-fuel : goal.walking::wrap-returns-in_err-fuel
+walking::wrap-returns-in_err-fuel t c =
     let p = err_from_is_err_and c.from_residual.result c.from_residual.ensures.1 in rw (p.1, p.2) tt
 
 pub formulas::write-returns-in_err-fuel : goal.formulas::write-returns-in_err-fuel
 formulas::write-returns-in_err-fuel t c =
     let p = err_from_is_err_and c.from_residual.result c.from_residual.ensures.1 in rw (p.1, p.2) tt
 
-pub formulas::more_items-returns-in_err-fuel : goal.formulas::more_items-returns-in_err-fuel
-formulas::more_items-returns-in_err-fuel t c =
+pub members::more_items-returns-in_err-fuel : goal.members::more_items-returns-in_err-fuel
+members::more_items-returns-in_err-fuel t c =
     let p = err_from_is_err_and c.from_residual.result c.from_residual.ensures.1 in rw (p.1, p.2) tt
 
-pub formulas::meets_more-returns-in_err-fuel : goal.formulas::meets_more-returns-in_err-fuel
-formulas::meets_more-returns-in_err-fuel t c =
+pub filters::meets_more-returns-in_err-fuel : goal.filters::meets_more-returns-in_err-fuel
+filters::meets_more-returns-in_err-fuel t c =
     let p = err_from_is_err_and c.from_residual.result c.from_residual.ensures.1 in rw (p.1, p.2) tt
 
 pub formulas::write-returns-in-Holds : goal.formulas::write-returns-in-Holds
@@ -291,22 +291,22 @@ formulas::choose_ask-returns t c =
     let st = c.args.start.now in
     two_made _ _ _ _ (tree.both (part_data st c.args.above c.args.yes.now) (asked_of st c.args.above c.args.steps.now c.args.goal.now (source_data st c.args.a.now))) (tree.both (part_data st c.args.above c.args.no.now) (asked_of st c.args.above c.args.steps.now c.args.goal.now (source_data st c.args.b.now))) (tree.either) _ _ _ (size-and_if false (tree.both (part_data st c.args.above c.args.yes.now) (asked_of st c.args.above c.args.steps.now c.args.goal.now (source_data st c.args.a.now))) (tree.both (part_data st c.args.above c.args.no.now) (asked_of st c.args.above c.args.steps.now c.args.goal.now (source_data st c.args.b.now)))) c.in_ok-x.ensures c.in_ok-y.ensures c.either.ensures
 
-pub formulas::ask-returns-in-Expr : goal.formulas::ask-returns-in-Expr
-formulas::ask-returns-in-Expr t c =
+pub walking::ask-returns-in-Expr : goal.walking::ask-returns-in-Expr
+walking::ask-returns-in-Expr t c =
     let st = c.args.start.now in
     makes_same _ _ _ _ _
     (ap (λ (v : Source). asked_of st c.args.above c.args.steps.now c.args.goal.now (source_data st v)) (sym c.in-Expr.is))
     c.walk.ensures
 
-pub formulas::ask-returns-in-Field : goal.formulas::ask-returns-in-Field
-formulas::ask-returns-in-Field t c =
+pub walking::ask-returns-in-Field : goal.walking::ask-returns-in-Field
+walking::ask-returns-in-Field t c =
     let st = c.args.start.now in
     makes_same _ _ _ _ _
     (ap (λ (v : Source). asked_of st c.args.above c.args.steps.now c.args.goal.now (source_data st v)) (sym c.in-Field.is))
     c.field.ensures
 
-pub formulas::walk-returns-in-SomeLit : goal.formulas::walk-returns-in-SomeLit
-formulas::walk-returns-in-SomeLit t c =
+pub walking::walk-returns-in-SomeLit : goal.walking::walk-returns-in-SomeLit
+walking::walk-returns-in-SomeLit t c =
     let st = c.args.start.now in
     let s = schema_in st in
     let w = written_in st c.args.scene.now in
@@ -315,8 +315,8 @@ formulas::walk-returns-in-SomeLit t c =
     (ap (asked_of st c.args.above c.args.steps.now c.args.goal.now) (walk_some s w env c.args.e.now c.get.result.now c.in-SomeLit.a c.in-SomeLit.is c.get.ensures))
     c.wrap.ensures
 
-pub formulas::walk-returns-in-Get : goal.formulas::walk-returns-in-Get
-formulas::walk-returns-in-Get t c =
+pub walking::walk-returns-in-Get : goal.walking::walk-returns-in-Get
+walking::walk-returns-in-Get t c =
     let st = c.args.start.now in
     let s = schema_in st in
     let w = written_in st c.args.scene.now in
@@ -325,8 +325,8 @@ formulas::walk-returns-in-Get t c =
     (ap (at_ends c.args.above (goal_data st c.args.goal.now c.args.above)) (walk_get s w env (written_upto st c.upto_of.result) (steps_data st c.args.steps.now) c.args.e.now c.get-in-Get.result.now c.in-Get.a c.in-Get.m c.in-Get.f c.in-Get.is c.get-in-Get.ensures (ap (written_upto st) (sym c.upto_of.ensures))))
     c.walk.ensures
 
-pub formulas::walk-returns-in-IfE : goal.formulas::walk-returns-in-IfE
-formulas::walk-returns-in-IfE t c =
+pub walking::walk-returns-in-IfE : goal.walking::walk-returns-in-IfE
+walking::walk-returns-in-IfE t c =
     let st = c.args.start.now in
     let s = schema_in st in
     let w = written_in st c.args.scene.now in
@@ -335,8 +335,8 @@ formulas::walk-returns-in-IfE t c =
     (walk_if s w env c.args.above (goal_data st c.args.goal.now c.args.above) (steps_data st c.args.steps.now) c.args.e.now c.get-in-IfE.result.now c.in-IfE.c c.get-in-IfE-2.result.now c.in-IfE.a c.get-in-IfE-3.result.now c.in-IfE.b c.in-IfE.is c.get-in-IfE.ensures c.get-in-IfE-2.ensures c.get-in-IfE-3.ensures)
     c.choose_ask.ensures
 
-pub formulas::walk-returns-in-MatchE : goal.formulas::walk-returns-in-MatchE
-formulas::walk-returns-in-MatchE t c =
+pub walking::walk-returns-in-MatchE : goal.walking::walk-returns-in-MatchE
+walking::walk-returns-in-MatchE t c =
     let st = c.args.start.now in
     let s = schema_in st in
     let w = written_in st c.args.scene.now in
@@ -345,8 +345,8 @@ formulas::walk-returns-in-MatchE t c =
     (ap (at_ends c.args.above (goal_data st c.args.goal.now c.args.above)) (walk_match s w env (steps_data st c.args.steps.now) c.args.e.now c.get-in-MatchE-3.result.now c.in-MatchE.of c.get-in-MatchE.result.now c.in-MatchE.a c.get-in-MatchE-2.result.now c.in-MatchE.c c.in-MatchE.field-2 c.in-MatchE.is c.get-in-MatchE-3.ensures c.get-in-MatchE.ensures c.get-in-MatchE-2.ensures))
     c.walk-in-MatchE.ensures
 
-pub formulas::walk-returns-in-Flag : goal.formulas::walk-returns-in-Flag
-formulas::walk-returns-in-Flag t c =
+pub walking::walk-returns-in-Flag : goal.walking::walk-returns-in-Flag
+walking::walk-returns-in-Flag t c =
     let st = c.args.start.now in
     let s = schema_in st in
     let w = written_in st c.args.scene.now in
@@ -382,12 +382,12 @@ formulas::walk-returns-in-Flag t c =
     (ap (asked_of st c.args.above c.args.steps.now c.args.goal.now) whole)
     c.ask_end-in-Flag.ensures
 
-pub formulas::wrap-returns-in_err-is_truth : goal.formulas::wrap-returns-in_err-is_truth
-formulas::wrap-returns-in_err-is_truth t c =
+pub walking::wrap-returns-in_err-is_truth : goal.walking::wrap-returns-in_err-is_truth
+walking::wrap-returns-in_err-is_truth t c =
     let p = err_from_is_err_and c.from_residual-in_err-is_truth.result c.from_residual-in_err-is_truth.ensures.1 in rw (p.1, p.2) tt
 
-pub formulas::wrap-returns-then-is_truth : goal.formulas::wrap-returns-then-is_truth
-formulas::wrap-returns-then-is_truth t c =
+pub walking::wrap-returns-then-is_truth : goal.walking::wrap-returns-then-is_truth
+walking::wrap-returns-then-is_truth t c =
     let st = c.args.start.now in
     let s = schema_in st in
     let w = written_in st c.args.scene.now in
@@ -396,8 +396,8 @@ formulas::wrap-returns-then-is_truth t c =
     (ap (asked_of st c.args.above c.args.steps.now c.args.goal.now) (sym (wrap_truth s (cases_of s w env (expr_of c.args.e.now)) c.in_ok-is_truth.is_truth c.in_ok-is_truth.ensures c.if-is_truth.true)))
     c.ask_end.ensures
 
-pub formulas::wrap-returns : goal.formulas::wrap-returns
-formulas::wrap-returns t c =
+pub walking::wrap-returns : goal.walking::wrap-returns
+walking::wrap-returns t c =
     let st = c.args.start.now in
     let s = schema_in st in
     let w = written_in st c.args.scene.now in
@@ -406,68 +406,68 @@ formulas::wrap-returns t c =
     (ap (at_ends c.args.above (goal_data st c.args.goal.now c.args.above)) (sym (wrap_other s (cases_of s w env (expr_of c.args.e.now)) (steps_data st c.args.steps.now) c.in_ok-is_truth.is_truth c.in_ok-is_truth.ensures c.if-is_truth.false)))
     c.walk.ensures
 
-pub formulas::ask_end-returns-in-Done : goal.formulas::ask_end-returns-in-Done
-formulas::ask_end-returns-in-Done t c =
+pub walking::ask_end-returns-in-Done : goal.walking::ask_end-returns-in-Done
+walking::ask_end-returns-in-Done t c =
     let st = c.args.start.now in
     makes_same _ _ _ _ _
     (sym (end_ends st c.args.above (goal_data st c.args.goal.now c.args.above) c.args.end.now) ∙ ap (λ (v : Steps). at_ends c.args.above (goal_data st c.args.goal.now c.args.above) (steps_data st v (end_data st c.args.end.now))) (sym c.in-Done.is))
     c.finish.ensures
 
-pub formulas::ask_end-returns-in-Get : goal.formulas::ask_end-returns-in-Get
-formulas::ask_end-returns-in-Get t c =
+pub walking::ask_end-returns-in-Get : goal.walking::ask_end-returns-in-Get
+walking::ask_end-returns-in-Get t c =
     let st = c.args.start.now in
     makes_same _ _ _ _ _
     (ap (λ (v : Steps). at_ends c.args.above (goal_data st c.args.goal.now c.args.above) (steps_data st v (end_data st c.args.end.now))) (sym c.in-Get.is))
     c.get.ensures
 
-pub formulas::ask_end-returns-in-Match : goal.formulas::ask_end-returns-in-Match
-formulas::ask_end-returns-in-Match t c =
+pub walking::ask_end-returns-in-Match : goal.walking::ask_end-returns-in-Match
+walking::ask_end-returns-in-Match t c =
     let st = c.args.start.now in
     makes_same _ _ _ _ _
     (ap (λ (v : Steps). at_ends c.args.above (goal_data st c.args.goal.now c.args.above) (steps_data st v (end_data st c.args.end.now))) (sym c.in-Match.is))
     c.take_apart.ensures
 
-pub formulas::ask_end-returns-in-Wrap : goal.formulas::ask_end-returns-in-Wrap
-formulas::ask_end-returns-in-Wrap t c =
+pub walking::ask_end-returns-in-Wrap : goal.walking::ask_end-returns-in-Wrap
+walking::ask_end-returns-in-Wrap t c =
     let st = c.args.start.now in
     makes_same _ _ _ _ _
     (ap (λ (v : Steps). at_ends c.args.above (goal_data st c.args.goal.now c.args.above) (steps_data st v (end_data st c.args.end.now))) (sym c.in-Wrap.is))
     c.ask_end.ensures
 
-pub formulas::ask_end-returns-then-is_truth_end : goal.formulas::ask_end-returns-then-is_truth_end
-formulas::ask_end-returns-then-is_truth_end t c =
+pub walking::ask_end-returns-then-is_truth_end : goal.walking::ask_end-returns-then-is_truth_end
+walking::ask_end-returns-then-is_truth_end t c =
     let st = c.args.start.now in
     let s = schema_in st in
     makes_same _ _ _ _ _
     (ap (λ b. at_ends c.args.above (goal_data st c.args.goal.now c.args.above) (steps_data st c.in-Just.next.now (if b then some (truth (condition_of s (cases_of s (written_in st c.in-Just.scene.now) (scene_data st c.in-Just.scene.now) (expr_of c.in-Just.e.now)))) else some (end_data st c.args.end.now)))) (sym c.if-is_truth_end.true ∙ c.is_truth_end.ensures) ∙ ap (λ (v : Steps). at_ends c.args.above (goal_data st c.args.goal.now c.args.above) (steps_data st v (end_data st c.args.end.now))) (sym c.in-Just.is))
     c.ask_end-then-is_truth_end.ensures
 
-pub formulas::ask_end-returns-else-is_truth_end : goal.formulas::ask_end-returns-else-is_truth_end
-formulas::ask_end-returns-else-is_truth_end t c =
+pub walking::ask_end-returns-else-is_truth_end : goal.walking::ask_end-returns-else-is_truth_end
+walking::ask_end-returns-else-is_truth_end t c =
     let st = c.args.start.now in
     let s = schema_in st in
     makes_same _ _ _ _ _
     (ap (λ b. at_ends c.args.above (goal_data st c.args.goal.now c.args.above) (steps_data st c.in-Just.next.now (if b then some (truth (condition_of s (cases_of s (written_in st c.in-Just.scene.now) (scene_data st c.in-Just.scene.now) (expr_of c.in-Just.e.now)))) else some (end_data st c.args.end.now)))) (sym c.if-is_truth_end.false ∙ c.is_truth_end.ensures) ∙ ap (λ (v : Steps). at_ends c.args.above (goal_data st c.args.goal.now c.args.above) (steps_data st v (end_data st c.args.end.now))) (sym c.in-Just.is))
     c.ask_end-else-is_truth_end.ensures
 
-pub formulas::get-returns-in-Term : goal.formulas::get-returns-in-Term
-formulas::get-returns-in-Term t c =
+pub walking::get-returns-in-Term : goal.walking::get-returns-in-Term
+walking::get-returns-in-Term t c =
     let st = c.args.start.now in
     let s = schema_in st in
     makes_same _ _ _ _ _
     (ap (λ (x : End). asked_of st c.args.above c.args.steps.now c.args.goal.now (of_term s none (field_cases s (written_upto st c.args.upto) c.args.m c.args.f) (end_data st x))) (sym c.in-Term.is))
     c.field.ensures
 
-pub formulas::get-returns-in-Held : goal.formulas::get-returns-in-Held
-formulas::get-returns-in-Held t c =
+pub walking::get-returns-in-Held : goal.walking::get-returns-in-Held
+walking::get-returns-in-Held t c =
     let st = c.args.start.now in
     let s = schema_in st in
     makes_same _ _ _ _ _
     (ap (λ k. asked_of st c.args.above c.args.steps.now c.args.goal.now (field_cases s (written_upto st c.args.upto) c.args.m c.args.f (tree.app k (term_data c.in-Held.t.now)))) c.function_of.ensures ∙ ap (λ (x : End). asked_of st c.args.above c.args.steps.now c.args.goal.now (of_term s none (field_cases s (written_upto st c.args.upto) c.args.m c.args.f) (end_data st x))) (sym c.in-Held.is))
     c.field-in-Held.ensures
 
-pub formulas::take_apart-returns-in-Some : goal.formulas::take_apart-returns-in-Some
-formulas::take_apart-returns-in-Some t c =
+pub walking::take_apart-returns-in-Some : goal.walking::take_apart-returns-in-Some
+walking::take_apart-returns-in-Some t c =
     let st = c.args.start.now in
     let s = schema_in st in
     let w = written_in st c.args.scene.now in
@@ -476,8 +476,8 @@ formulas::take_apart-returns-in-Some t c =
     (ap (λ (x : End). asked_of st c.args.above c.args.steps.now c.args.goal.now (of_option s choice (cases_of s w env (expr_of c.args.a.now)) (λ y. cases_of s w (env ++ y ∷ []) (expr_of c.args.some.now)) (end_data st x))) (sym c.in-Some.is))
     c.walk.ensures
 
-pub formulas::take_apart-returns-in-Held : goal.formulas::take_apart-returns-in-Held
-formulas::take_apart-returns-in-Held t c =
+pub walking::take_apart-returns-in-Held : goal.walking::take_apart-returns-in-Held
+walking::take_apart-returns-in-Held t c =
     let st = c.args.start.now in
     let s = schema_in st in
     let w = written_in st c.args.scene.now in
@@ -486,29 +486,29 @@ formulas::take_apart-returns-in-Held t c =
     (ap (λ (x : End). tree.either (tree.both (atom false (tree.present (function_of s c.in-Held.m c.in-Held.f) (term_data c.in-Held.t.now))) (asked_of st c.args.above c.args.steps.now c.args.goal.now (cases_of s w env (expr_of c.args.a.now)))) (tree.both (atom true (tree.present (function_of s c.in-Held.m c.in-Held.f) (term_data c.in-Held.t.now))) (asked_of st c.args.above c.args.steps.now c.args.goal.now (cases_of s w (env ++ end_data st x ∷ []) (expr_of c.args.some.now))))) c.in-Held.is ∙ ap (λ (x : End). asked_of st c.args.above c.args.steps.now c.args.goal.now (of_option s choice (cases_of s w env (expr_of c.args.a.now)) (λ y. cases_of s w (env ++ y ∷ []) (expr_of c.args.some.now)) (end_data st x))) (sym c.in-Held.is))
     c.choose_ask.ensures
 
-pub formulas::finish-returns-in-Holds : goal.formulas::finish-returns-in-Holds
-formulas::finish-returns-in-Holds t c =
+pub ends::finish-returns-in-Holds : goal.ends::finish-returns-in-Holds
+ends::finish-returns-in-Holds t c =
     let st = c.args.start.now in
     makes_same _ _ _ _ _
     (ap (λ (g : Goal). goal_data st g c.args.above (end_data st c.args.end.now)) (sym c.in-Holds.is))
     c.end_holds.ensures
 
-pub formulas::finish-returns-in-Has : goal.formulas::finish-returns-in-Has
-formulas::finish-returns-in-Has t c =
+pub ends::finish-returns-in-Has : goal.ends::finish-returns-in-Has
+ends::finish-returns-in-Has t c =
     let st = c.args.start.now in
     makes_same _ _ _ _ _
     (ap (λ (g : Goal). goal_data st g c.args.above (end_data st c.args.end.now)) (sym c.in-Has.is))
     c.end_has.ensures
 
-pub formulas::finish-returns-in-Chosen : goal.formulas::finish-returns-in-Chosen
-formulas::finish-returns-in-Chosen t c =
+pub ends::finish-returns-in-Chosen : goal.ends::finish-returns-in-Chosen
+ends::finish-returns-in-Chosen t c =
     let st = c.args.start.now in
     makes_same _ _ _ _ _
     (ap (λ (g : Goal). goal_data st g c.args.above (end_data st c.args.end.now)) (sym c.in-Chosen.is))
     c.choose_set.ensures
 
-pub formulas::finish-returns-in-Equal : goal.formulas::finish-returns-in-Equal
-formulas::finish-returns-in-Equal t c =
+pub ends::finish-returns-in-Equal : goal.ends::finish-returns-in-Equal
+ends::finish-returns-in-Equal t c =
     let st = c.args.start.now in
     let s = schema_in st in
     let P : Goal → Type 0 = λ g. of_term s tree.no (term_goal st g c.args.above) (end_data st c.args.end.now) ≡ goal_data st g c.args.above (end_data st c.args.end.now) in
@@ -516,8 +516,8 @@ formulas::finish-returns-in-Equal t c =
     (let h : P c.args.goal.now = elim c.in-Equal.is [ inl p ↦ subst P (sym p.2) refl | inr q ↦ elim q [ inl p ↦ subst P (sym p.2) refl | inr q ↦ elim q [ inl p ↦ subst P (sym p.2) refl | inr q ↦ elim q [ inl p ↦ subst P (sym p.2) refl | inr q ↦ elim q [ inl p ↦ subst P (sym p.4) refl | inr q ↦ elim q [ inl p ↦ subst P (sym p.3) refl | inr p ↦ subst P (sym p.2) refl ] ] ] ] ] ] in h)
     c.end_term.ensures
 
-pub formulas::end_holds-returns-in-Held : goal.formulas::end_holds-returns-in-Held
-formulas::end_holds-returns-in-Held t c =
+pub ends::end_holds-returns-in-Held : goal.ends::end_holds-returns-in-Held
+ends::end_holds-returns-in-Held t c =
     let st = c.args.start.now in
     let s = schema_in st in
     makes_same _ _ _ _ _
@@ -525,16 +525,16 @@ formulas::end_holds-returns-in-Held t c =
     (made_for (λ k. atom c.args.sign (tree.flag k (term_data c.in-Held.t.now))) _ _ _ _ _
     (size-flag c.args.sign _ _ (term_data c.in-Held.t.now)) c.function_for.ensures c.flag.ensures)
 
-pub formulas::end_holds-returns-in-Truth : goal.formulas::end_holds-returns-in-Truth
-formulas::end_holds-returns-in-Truth t c =
+pub ends::end_holds-returns-in-Truth : goal.ends::end_holds-returns-in-Truth
+ends::end_holds-returns-in-Truth t c =
     let st = c.args.start.now in
     let s = schema_in st in
     makes_same _ _ _ _ _
     (ap (λ (x : End). end_holds s c.args.sign c.args.above (end_data st x)) (sym c.in-Truth.is))
     c.condition.ensures
 
-pub formulas::end_has-returns-in-Held : goal.formulas::end_has-returns-in-Held
-formulas::end_has-returns-in-Held t c =
+pub ends::end_has-returns-in-Held : goal.ends::end_has-returns-in-Held
+ends::end_has-returns-in-Held t c =
     let st = c.args.start.now in
     let s = schema_in st in
     makes_same _ _ _ _ _
@@ -542,91 +542,91 @@ formulas::end_has-returns-in-Held t c =
     (made_for (λ k. atom c.args.sign (tree.has k (term_data c.in-Held.t.now) (term_data c.args.u.now))) _ _ _ _ _
     (size-has c.args.sign _ _ (term_data c.in-Held.t.now) (term_data c.args.u.now)) c.relation_for.ensures c.has.ensures)
 
-pub formulas::end_has-returns-in-Among : goal.formulas::end_has-returns-in-Among
-formulas::end_has-returns-in-Among t c =
+pub ends::end_has-returns-in-Among : goal.ends::end_has-returns-in-Among
+ends::end_has-returns-in-Among t c =
     let st = c.args.start.now in
     let s = schema_in st in
     makes_same _ _ _ _ _
     (ap (λ (x : End). end_has s (term_data c.args.u.now) c.args.sign c.args.above (end_data st x)) (sym c.in-Among.is))
     c.member.ensures
 
-pub formulas::end_term-returns-in-Term : goal.formulas::end_term-returns-in-Term
-formulas::end_term-returns-in-Term t c =
+pub ends::end_term-returns-in-Term : goal.ends::end_term-returns-in-Term
+ends::end_term-returns-in-Term t c =
     let st = c.args.start.now in
     let s = schema_in st in
     makes_same _ _ _ _ _
     (ap (λ (x : End). of_term s tree.no (term_goal st c.args.goal.now c.args.above) (end_data st x)) (sym c.in-Term.is))
     c.at_term.ensures
 
-pub formulas::end_term-returns-in-Held : goal.formulas::end_term-returns-in-Held
-formulas::end_term-returns-in-Held t c =
+pub ends::end_term-returns-in-Held : goal.ends::end_term-returns-in-Held
+ends::end_term-returns-in-Held t c =
     let st = c.args.start.now in
     let s = schema_in st in
     makes_same _ _ _ _ _
     (ap (λ k. term_goal st c.args.goal.now c.args.above (tree.app k (term_data c.in-Held.t.now))) c.function_of.ensures ∙ ap (λ (x : End). of_term s tree.no (term_goal st c.args.goal.now c.args.above) (end_data st x)) (sym c.in-Held.is))
     c.at_term-in-Held.ensures
 
-pub formulas::at_term-returns-in-Equal : goal.formulas::at_term-returns-in-Equal
-formulas::at_term-returns-in-Equal t c =
+pub ends::at_term-returns-in-Equal : goal.ends::at_term-returns-in-Equal
+ends::at_term-returns-in-Equal t c =
     let st = c.args.start.now in
     makes_same _ _ _ _ _
     (ap (λ (g : Goal). term_goal st g c.args.above (term_data c.args.t.now)) (sym c.in-Equal.is))
     c.equal.ensures
 
-pub formulas::at_term-returns-in-Below : goal.formulas::at_term-returns-in-Below
-formulas::at_term-returns-in-Below t c =
+pub ends::at_term-returns-in-Below : goal.ends::at_term-returns-in-Below
+ends::at_term-returns-in-Below t c =
     let st = c.args.start.now in
     makes_same _ _ _ _ _
     (ap (λ (g : Goal). term_goal st g c.args.above (term_data c.args.t.now)) (sym c.in-Below.is))
     c.less.ensures
 
-pub formulas::at_term-returns-in-EqualTo : goal.formulas::at_term-returns-in-EqualTo
-formulas::at_term-returns-in-EqualTo t c =
+pub ends::at_term-returns-in-EqualTo : goal.ends::at_term-returns-in-EqualTo
+ends::at_term-returns-in-EqualTo t c =
     let st = c.args.start.now in
     let s = schema_in st in
     makes_same _ _ _ _ _
     (ask_done c.args.above (of_term s tree.no (λ u. atom c.in-EqualTo.sign (tree.equal (term_data c.args.t.now) u))) (source_data st c.in-EqualTo.v.now) ∙ ap (λ (g : Goal). term_goal st g c.args.above (term_data c.args.t.now)) (sym c.in-EqualTo.is))
     c.ask.ensures
 
-pub formulas::at_term-returns-in-LessThan : goal.formulas::at_term-returns-in-LessThan
-formulas::at_term-returns-in-LessThan t c =
+pub ends::at_term-returns-in-LessThan : goal.ends::at_term-returns-in-LessThan
+ends::at_term-returns-in-LessThan t c =
     let st = c.args.start.now in
     let s = schema_in st in
     makes_same _ _ _ _ _
     (ask_done c.args.above (of_term s tree.no (λ u. atom c.in-LessThan.sign (tree.less (term_data c.args.t.now) u))) (source_data st c.in-LessThan.v.now) ∙ ap (λ (g : Goal). term_goal st g c.args.above (term_data c.args.t.now)) (sym c.in-LessThan.is))
     c.ask-in-LessThan.ensures
 
-pub formulas::at_term-returns-in-Within : goal.formulas::at_term-returns-in-Within
-formulas::at_term-returns-in-Within t c =
+pub ends::at_term-returns-in-Within : goal.ends::at_term-returns-in-Within
+ends::at_term-returns-in-Within t c =
     let st = c.args.start.now in
     makes_same _ _ _ _ _
     (ap (λ (g : Goal). term_goal st g c.args.above (term_data c.args.t.now)) (sym c.in-Within.is))
     c.member.ensures
 
-pub formulas::at_term-returns-in-Some : goal.formulas::at_term-returns-in-Some
-formulas::at_term-returns-in-Some t c =
+pub ends::at_term-returns-in-Some : goal.ends::at_term-returns-in-Some
+ends::at_term-returns-in-Some t c =
     let st = c.args.start.now in
     makes_same _ _ _ _ _
     (sym (c.in-Some.ensures (λ u sign above. atom sign (tree.equal u (term_data c.args.t.now))) c.in-Is.sign c.args.above) ∙ ap (λ (g : Goal). term_goal st g c.args.above (term_data c.args.t.now)) (sym c.in-Is.is))
     c.equal-in-Some.ensures
 
-pub formulas::at_term-returns-in-None : goal.formulas::at_term-returns-in-None
-formulas::at_term-returns-in-None t c =
+pub ends::at_term-returns-in-None : goal.ends::at_term-returns-in-None
+ends::at_term-returns-in-None t c =
     let st = c.args.start.now in
     makes_same _ _ _ _ _
     (sym (c.in-None.ensures (λ u sign above. atom sign (tree.equal u (term_data c.args.t.now))) c.in-Is.sign c.args.above) ∙ ap (λ (g : Goal). term_goal st g c.args.above (term_data c.args.t.now)) (sym c.in-Is.is))
     c.constant.ensures
 
-pub formulas::at_term-returns-in-In : goal.formulas::at_term-returns-in-In
-formulas::at_term-returns-in-In t c =
+pub ends::at_term-returns-in-In : goal.ends::at_term-returns-in-In
+ends::at_term-returns-in-In t c =
     let st = c.args.start.now in
     let s = schema_in st in
     makes_same _ _ _ _ _
     (ask_done c.args.above (end_has s (term_data c.args.t.now) c.in-In.sign c.args.above) (source_data st c.in-In.v.now) ∙ ap (λ (g : Goal). term_goal st g c.args.above (term_data c.args.t.now)) (sym c.in-In.is))
     c.ask-in-In.ensures
 
-pub formulas::choose_set-returns-in-Some : goal.formulas::choose_set-returns-in-Some
-formulas::choose_set-returns-in-Some t c =
+pub ends::choose_set-returns-in-Some : goal.ends::choose_set-returns-in-Some
+ends::choose_set-returns-in-Some t c =
     let st = c.args.start.now in
     let s = schema_in st in
     let w = written_in st c.args.scene.now in
@@ -635,8 +635,8 @@ formulas::choose_set-returns-in-Some t c =
     (ap (λ (x : End). of_option s (chosen c.args.above) (is_in s w env (set_of c.args.a.now) (who_data c.args.who.now) c.args.sign c.args.above) (λ y. is_in s w (env ++ y ∷ []) (set_of c.args.some.now) (who_data c.args.who.now) c.args.sign c.args.above) (end_data st x)) (sym c.in-Some.is))
     c.member.ensures
 
-pub formulas::choose_set-returns-in-Held : goal.formulas::choose_set-returns-in-Held
-formulas::choose_set-returns-in-Held t c =
+pub ends::choose_set-returns-in-Held : goal.ends::choose_set-returns-in-Held
+ends::choose_set-returns-in-Held t c =
     let st = c.args.start.now in
     let s = schema_in st in
     let w = written_in st c.args.scene.now in
@@ -645,24 +645,24 @@ formulas::choose_set-returns-in-Held t c =
     (ap (λ (x : End). tree.either (tree.both (atom false (tree.present (function_of s c.in-Held.m c.in-Held.f) (term_data c.in-Held.t.now))) (is_in s w env (set_of c.args.a.now) (who_data c.args.who.now) c.args.sign c.args.above)) (tree.both (atom true (tree.present (function_of s c.in-Held.m c.in-Held.f) (term_data c.in-Held.t.now))) (is_in s w (env ++ end_data st x ∷ []) (set_of c.args.some.now) (who_data c.args.who.now) c.args.sign c.args.above))) c.in-Held.is ∙ ap (λ (x : End). of_option s (chosen c.args.above) (is_in s w env (set_of c.args.a.now) (who_data c.args.who.now) c.args.sign c.args.above) (λ y. is_in s w (env ++ y ∷ []) (set_of c.args.some.now) (who_data c.args.who.now) c.args.sign c.args.above) (end_data st x)) (sym c.in-Held.is))
     c.choose.ensures
 
-pub formulas::holds-returns-in-Expr : goal.formulas::holds-returns-in-Expr
-formulas::holds-returns-in-Expr t c =
+pub conditions::holds-returns-in-Expr : goal.conditions::holds-returns-in-Expr
+conditions::holds-returns-in-Expr t c =
     let st = c.args.start.now in
     let s = schema_in st in
     makes_same _ _ _ _ _
     (ap (λ (v : Source). condition_of s (source_data st v) c.args.sign c.args.above) (sym c.in-Expr.is))
     c.condition.ensures
 
-pub formulas::holds-returns-in-Field : goal.formulas::holds-returns-in-Field
-formulas::holds-returns-in-Field t c =
+pub conditions::holds-returns-in-Field : goal.conditions::holds-returns-in-Field
+conditions::holds-returns-in-Field t c =
     let st = c.args.start.now in
     let s = schema_in st in
     makes_same _ _ _ _ _
     (ask_done c.args.above (end_holds s c.args.sign c.args.above) (source_data st c.args.source.now))
     c.ask.ensures
 
-pub formulas::condition-returns-in-Flag : goal.formulas::condition-returns-in-Flag
-formulas::condition-returns-in-Flag t c =
+pub conditions::condition-returns-in-Flag : goal.conditions::condition-returns-in-Flag
+conditions::condition-returns-in-Flag t c =
     let st = c.args.start.now in
     let s = schema_in st in
     let w = written_in st c.args.scene.now in
@@ -671,8 +671,8 @@ formulas::condition-returns-in-Flag t c =
     (ap constant c.same_truth.ensures ∙ ap (λ x. condition_of s (cases_of s w env x) c.args.sign c.args.above) (sym (ap expr_of c.in-Flag.is ∙ Flag_is c.in-Flag.b)))
     c.constant.ensures
 
-pub formulas::condition-returns-in-Eq : goal.formulas::condition-returns-in-Eq
-formulas::condition-returns-in-Eq t c =
+pub conditions::condition-returns-in-Eq : goal.conditions::condition-returns-in-Eq
+conditions::condition-returns-in-Eq t c =
     let st = c.args.start.now in
     let s = schema_in st in
     let w = written_in st c.args.scene.now in
@@ -681,8 +681,8 @@ formulas::condition-returns-in-Eq t c =
     (eq_is s w env c.args.sign c.args.above c.args.e.now c.get.result.now c.in-Eq.a c.get-in-Eq.result.now c.in-Eq.b c.in-Eq.field-2 c.in-Eq.is c.get.ensures c.get-in-Eq.ensures)
     c.ask.ensures
 
-pub formulas::condition-returns-in-Iff : goal.formulas::condition-returns-in-Iff
-formulas::condition-returns-in-Iff t c =
+pub conditions::condition-returns-in-Iff : goal.conditions::condition-returns-in-Iff
+conditions::condition-returns-in-Iff t c =
     let st = c.args.start.now in
     let s = schema_in st in
     let w = written_in st c.args.scene.now in
@@ -691,8 +691,8 @@ formulas::condition-returns-in-Iff t c =
     (iff_is s w env c.args.sign c.args.above c.args.e.now c.get-in-Iff.result.now c.in-Iff.a c.get-in-Iff-2.result.now c.in-Iff.b c.in-Iff.field-2 c.in-Iff.is c.get-in-Iff.ensures c.get-in-Iff-2.ensures)
     c.same.ensures
 
-pub formulas::condition-returns-in-Less : goal.formulas::condition-returns-in-Less
-formulas::condition-returns-in-Less t c =
+pub conditions::condition-returns-in-Less : goal.conditions::condition-returns-in-Less
+conditions::condition-returns-in-Less t c =
     let st = c.args.start.now in
     let s = schema_in st in
     let w = written_in st c.args.scene.now in
@@ -701,8 +701,8 @@ formulas::condition-returns-in-Less t c =
     (less_is s w env c.args.sign c.args.above c.args.e.now c.get-in-Less.result.now c.in-Less.a c.get-in-Less-2.result.now c.in-Less.b c.in-Less.field-2 c.in-Less.is c.get-in-Less.ensures c.get-in-Less-2.ensures)
     c.ask-in-Less.ensures
 
-pub formulas::condition-returns-in-Member : goal.formulas::condition-returns-in-Member
-formulas::condition-returns-in-Member t c =
+pub conditions::condition-returns-in-Member : goal.conditions::condition-returns-in-Member
+conditions::condition-returns-in-Member t c =
     let st = c.args.start.now in
     let s = schema_in st in
     let w = written_in st c.args.scene.now in
@@ -711,18 +711,19 @@ formulas::condition-returns-in-Member t c =
     (within_is s w env c.args.sign c.args.above c.args.e.now c.get-in-Member-2.result.now c.in-Member.of c.in-Member.m c.get-in-Member.result.now c.in-Member.set c.in-Member.is c.get-in-Member-2.ensures c.get-in-Member.ensures)
     c.walk.ensures
 
-pub formulas::condition-returns-in-Not : goal.formulas::condition-returns-in-Not
-formulas::condition-returns-in-Not t c =
+pub conditions::condition-returns-in-Not : goal.conditions::condition-returns-in-Not
+conditions::condition-returns-in-Not t c =
     let st = c.args.start.now in
     let s = schema_in st in
     let w = written_in st c.args.scene.now in
     let env = scene_data st c.args.scene.now in
     makes_same _ _ _ _ _
-    (not_is s w env c.args.sign c.args.above c.args.e.now c.get-in-Not.result.now c.in-Not.a c.in-Not.is c.get-in-Not.ensures)
+    (c.unnegated-sign.ensures s w env c.args.above
+    ∙ not_is s w env c.args.sign c.args.above c.args.e.now c.get-in-Not.result.now c.in-Not.a c.in-Not.is c.get-in-Not.ensures)
     c.condition.ensures
 
-pub formulas::condition-returns-in-And : goal.formulas::condition-returns-in-And
-formulas::condition-returns-in-And t c =
+pub conditions::condition-returns-in-And : goal.conditions::condition-returns-in-And
+conditions::condition-returns-in-And t c =
     let st = c.args.start.now in
     let s = schema_in st in
     let w = written_in st c.args.scene.now in
@@ -731,8 +732,8 @@ formulas::condition-returns-in-And t c =
     (and_is s w env c.args.sign c.args.above c.args.e.now c.get-in-And.result.now c.in-And.a c.get-in-And-2.result.now c.in-And.b c.in-And.is c.get-in-And.ensures c.get-in-And-2.ensures)
     c.join.ensures
 
-pub formulas::condition-returns-in-Or : goal.formulas::condition-returns-in-Or
-formulas::condition-returns-in-Or t c =
+pub conditions::condition-returns-in-Or : goal.conditions::condition-returns-in-Or
+conditions::condition-returns-in-Or t c =
     let st = c.args.start.now in
     let s = schema_in st in
     let w = written_in st c.args.scene.now in
@@ -741,8 +742,8 @@ formulas::condition-returns-in-Or t c =
     (or_is s w env c.args.sign c.args.above c.args.e.now c.get-in-Or.result.now c.in-Or.a c.get-in-Or-2.result.now c.in-Or.b c.in-Or.is c.get-in-Or.ensures c.get-in-Or-2.ensures)
     c.join-in-Or.ensures
 
-pub formulas::condition-returns-in-Num : goal.formulas::condition-returns-in-Num
-formulas::condition-returns-in-Num t c =
+pub conditions::condition-returns-in-Num : goal.conditions::condition-returns-in-Num
+conditions::condition-returns-in-Num t c =
     let st = c.args.start.now in
     let s = schema_in st in
     let w = written_in st c.args.scene.now in
@@ -751,108 +752,108 @@ formulas::condition-returns-in-Num t c =
     (ask_done c.args.above (end_holds s c.args.sign c.args.above) (cases_of s w env (expr_of c.args.e.now)))
     c.walk-in-Num.ensures
 
-pub formulas::same-returns : goal.formulas::same-returns
-formulas::same-returns t c =
+pub conditions::same-returns : goal.conditions::same-returns
+conditions::same-returns t c =
     c.choose.ensures
 
-pub formulas::equal-returns-in_err-first : goal.formulas::equal-returns-in_err-first
-formulas::equal-returns-in_err-first t c =
+pub conditions::equal-returns-in_err-first : goal.conditions::equal-returns-in_err-first
+conditions::equal-returns-in_err-first t c =
     let p = err_from_is_err_and c.from_residual-in_err-first.result c.from_residual-in_err-first.ensures.1 in rw (p.1, p.2) tt
 
-pub formulas::equal-returns-in_err-second : goal.formulas::equal-returns-in_err-second
-formulas::equal-returns-in_err-second t c =
+pub conditions::equal-returns-in_err-second : goal.conditions::equal-returns-in_err-second
+conditions::equal-returns-in_err-second t c =
     let p = err_from_is_err_and c.from_residual-in_err-second.result c.from_residual-in_err-second.ensures.1 in rw (p.1, p.2) tt
 
-pub formulas::equal-returns-then-any : goal.formulas::equal-returns-then-any
-formulas::equal-returns-then-any t c =
+pub conditions::equal-returns-then-any : goal.conditions::equal-returns-then-any
+conditions::equal-returns-then-any t c =
     let st = c.args.start.now in
     let s = schema_in st in
     makes_same _ _ _ _ _
     (equal_truths s (source_data st c.args.a.now) (source_data st c.args.b.now) c.args.sign c.args.above c.any.result (c.any.ensures ∙ ap2 ◌||◌ c.in_ok-first.ensures c.in_ok-second.ensures) c.if-any.true)
     c.same.ensures
 
-pub formulas::equal-returns-else-any : goal.formulas::equal-returns-else-any
-formulas::equal-returns-else-any t c =
+pub conditions::equal-returns-else-any : goal.conditions::equal-returns-else-any
+conditions::equal-returns-else-any t c =
     let st = c.args.start.now in
     let s = schema_in st in
     makes_same _ _ _ _ _
     (equal_terms s (source_data st c.args.a.now) (source_data st c.args.b.now) c.args.sign c.args.above c.any.result (c.any.ensures ∙ ap2 ◌||◌ c.in_ok-first.ensures c.in_ok-second.ensures) c.if-any.false)
     c.ask.ensures
 
-pub formulas::less-returns : goal.formulas::less-returns
-formulas::less-returns t c =
+pub conditions::less-returns : goal.conditions::less-returns
+conditions::less-returns t c =
     let st = c.args.start.now in
     let s = schema_in st in
     makes_same _ _ _ _ _
     (ask_done c.args.above (of_term s tree.no (λ t. at_terms s c.args.above (λ u. atom c.args.sign (tree.less t u)) (source_data st c.args.b.now))) (source_data st c.args.a.now))
     c.ask.ensures
 
-pub formulas::compare-returns-in-Eq : goal.formulas::compare-returns-in-Eq
-formulas::compare-returns-in-Eq t c =
+pub conditions::compare-returns-in-Eq : goal.conditions::compare-returns-in-Eq
+conditions::compare-returns-in-Eq t c =
     let st = c.args.start.now in
     let s = schema_in st in
     makes_same _ _ _ _ _
     (ap (λ (o : CmpOp). compared s o (source_data st c.args.a.now) (source_data st c.args.b.now) c.args.sign c.args.above) (sym c.in-Eq.is))
     c.equal.ensures
 
-pub formulas::compare-returns-in-Ne : goal.formulas::compare-returns-in-Ne
-formulas::compare-returns-in-Ne t c =
+pub conditions::compare-returns-in-Ne : goal.conditions::compare-returns-in-Ne
+conditions::compare-returns-in-Ne t c =
     let st = c.args.start.now in
     let s = schema_in st in
     makes_same _ _ _ _ _
     (ap (λ (o : CmpOp). compared s o (source_data st c.args.a.now) (source_data st c.args.b.now) c.args.sign c.args.above) (sym c.in-Ne.is))
     c.equal-in-Ne.ensures
 
-pub formulas::compare-returns-in-Lt : goal.formulas::compare-returns-in-Lt
-formulas::compare-returns-in-Lt t c =
+pub conditions::compare-returns-in-Lt : goal.conditions::compare-returns-in-Lt
+conditions::compare-returns-in-Lt t c =
     let st = c.args.start.now in
     let s = schema_in st in
     makes_same _ _ _ _ _
     (ap (λ (o : CmpOp). compared s o (source_data st c.args.a.now) (source_data st c.args.b.now) c.args.sign c.args.above) (sym c.in-Lt.is))
     c.less.ensures
 
-pub formulas::compare-returns-in-Le : goal.formulas::compare-returns-in-Le
-formulas::compare-returns-in-Le t c =
+pub conditions::compare-returns-in-Le : goal.conditions::compare-returns-in-Le
+conditions::compare-returns-in-Le t c =
     let st = c.args.start.now in
     let s = schema_in st in
     makes_same _ _ _ _ _
     (ap (λ (o : CmpOp). compared s o (source_data st c.args.a.now) (source_data st c.args.b.now) c.args.sign c.args.above) (sym c.in-Le.is))
     c.less-in-Le.ensures
 
-pub formulas::compare-returns-in-Gt : goal.formulas::compare-returns-in-Gt
-formulas::compare-returns-in-Gt t c =
+pub conditions::compare-returns-in-Gt : goal.conditions::compare-returns-in-Gt
+conditions::compare-returns-in-Gt t c =
     let st = c.args.start.now in
     let s = schema_in st in
     makes_same _ _ _ _ _
     (ap (λ (o : CmpOp). compared s o (source_data st c.args.a.now) (source_data st c.args.b.now) c.args.sign c.args.above) (sym c.in-Gt.is))
     c.less-in-Gt.ensures
 
-pub formulas::compare-returns-in-Ge : goal.formulas::compare-returns-in-Ge
-formulas::compare-returns-in-Ge t c =
+pub conditions::compare-returns-in-Ge : goal.conditions::compare-returns-in-Ge
+conditions::compare-returns-in-Ge t c =
     let st = c.args.start.now in
     let s = schema_in st in
     makes_same _ _ _ _ _
     (ap (λ (o : CmpOp). compared s o (source_data st c.args.a.now) (source_data st c.args.b.now) c.args.sign c.args.above) (sym c.in-Ge.is))
     c.less-in-Ge.ensures
 
-pub formulas::pass-returns-in-Cmp : goal.formulas::pass-returns-in-Cmp
-formulas::pass-returns-in-Cmp t c =
+pub filters::pass-returns-in-Cmp : goal.filters::pass-returns-in-Cmp
+filters::pass-returns-in-Cmp t c =
     let st = c.args.start.now in
     let s = schema_in st in
     makes_same _ _ _ _ _
     (ap (λ (o : FilterOp). passes s nothing_written o (source_data st c.args.held.now) (source_data st c.args.v.now) c.args.sign c.args.above) (sym c.in-Cmp.is))
     c.compare.ensures
 
-pub formulas::pass-returns-in-Has : goal.formulas::pass-returns-in-Has
-formulas::pass-returns-in-Has t c =
+pub filters::pass-returns-in-Has : goal.filters::pass-returns-in-Has
+filters::pass-returns-in-Has t c =
     let st = c.args.start.now in
     let s = schema_in st in
     makes_same _ _ _ _ _
     (ask_done c.args.above (of_term s tree.no (λ t. has_term s (source_data st c.args.held.now) t c.args.sign c.args.above)) (source_data st c.args.v.now) ∙ ap (λ (o : FilterOp). passes s nothing_written o (source_data st c.args.held.now) (source_data st c.args.v.now) c.args.sign c.args.above) (sym c.in-Has.is))
     c.ask.ensures
 
-pub formulas::member-returns-in-Everyone : goal.formulas::member-returns-in-Everyone
-formulas::member-returns-in-Everyone t c =
+pub members::member-returns-in-Everyone : goal.members::member-returns-in-Everyone
+members::member-returns-in-Everyone t c =
     let st = c.args.start.now in
     let s = schema_in st in
     let w = written_in st c.args.scene.now in
@@ -861,8 +862,8 @@ formulas::member-returns-in-Everyone t c =
     (ap (λ x. is_in s w env x (who_data c.args.who.now) c.args.sign c.args.above) (sym (ap set_of c.in-Everyone.is ∙ Everyone_set)))
     c.constant.ensures
 
-pub formulas::member-returns-in-Nobody : goal.formulas::member-returns-in-Nobody
-formulas::member-returns-in-Nobody t c =
+pub members::member-returns-in-Nobody : goal.members::member-returns-in-Nobody
+members::member-returns-in-Nobody t c =
     let st = c.args.start.now in
     let s = schema_in st in
     let w = written_in st c.args.scene.now in
@@ -871,8 +872,8 @@ formulas::member-returns-in-Nobody t c =
     (ap (λ x. is_in s w env x (who_data c.args.who.now) c.args.sign c.args.above) (sym (ap set_of c.in-Nobody.is ∙ Nobody_set)))
     c.constant-in-Nobody.ensures
 
-pub formulas::member-returns-in-Sum : goal.formulas::member-returns-in-Sum
-formulas::member-returns-in-Sum t c =
+pub members::member-returns-in-Sum : goal.members::member-returns-in-Sum
+members::member-returns-in-Sum t c =
     let st = c.args.start.now in
     let s = schema_in st in
     let w = written_in st c.args.scene.now in
@@ -881,8 +882,8 @@ formulas::member-returns-in-Sum t c =
     (sum_is s w env c.args.sign c.args.above (who_data c.args.who.now) c.args.set.now c.get.result.now c.in-Sum.a c.get-in-Sum.result.now c.in-Sum.b c.in-Sum.is c.get.ensures c.get-in-Sum.ensures)
     c.join.ensures
 
-pub formulas::member-returns-in-Less : goal.formulas::member-returns-in-Less
-formulas::member-returns-in-Less t c =
+pub members::member-returns-in-Less : goal.members::member-returns-in-Less
+members::member-returns-in-Less t c =
     let st = c.args.start.now in
     let s = schema_in st in
     let w = written_in st c.args.scene.now in
@@ -891,8 +892,8 @@ formulas::member-returns-in-Less t c =
     (minus_is s w env c.args.sign c.args.above (who_data c.args.who.now) c.args.set.now c.get-in-Less.result.now c.in-Less.a c.get-in-Less-2.result.now c.in-Less.b c.in-Less.is c.get-in-Less.ensures c.get-in-Less-2.ensures)
     c.join-in-Less.ensures
 
-pub formulas::member-returns-in-Some-asked_about : goal.formulas::member-returns-in-Some-asked_about
-formulas::member-returns-in-Some-asked_about t c =
+pub members::member-returns-in-Some-asked_about : goal.members::member-returns-in-Some-asked_about
+members::member-returns-in-Some-asked_about t c =
     let st = c.args.start.now in
     let s = schema_in st in
     let w = written_in st c.args.scene.now in
@@ -901,8 +902,8 @@ formulas::member-returns-in-Some-asked_about t c =
     (path_is s w env c.args.sign c.args.above (who_data c.args.who.now) c.args.set.now c.in-Path.e c.in-Path.m (term_data c.in-Some-asked_about.t.now) c.in-Path.is c.in-Some-asked_about.ensures)
     c.walk.ensures
 
-pub formulas::member-returns-in-None-asked_about : goal.formulas::member-returns-in-None-asked_about
-formulas::member-returns-in-None-asked_about t c =
+pub members::member-returns-in-None-asked_about : goal.members::member-returns-in-None-asked_about
+members::member-returns-in-None-asked_about t c =
     let st = c.args.start.now in
     let s = schema_in st in
     let w = written_in st c.args.scene.now in
@@ -911,8 +912,8 @@ formulas::member-returns-in-None-asked_about t c =
     (path_other s w env c.args.sign c.args.above (who_data c.args.who.now) c.args.set.now c.in-Path.e c.in-Path.m c.in-Path.is c.in-None-asked_about.ensures)
     c.constant-in-None-asked_about.ensures
 
-pub formulas::member-returns-in-MapS : goal.formulas::member-returns-in-MapS
-formulas::member-returns-in-MapS t c =
+pub members::member-returns-in-MapS : goal.members::member-returns-in-MapS
+members::member-returns-in-MapS t c =
     let st = c.args.start.now in
     let s = schema_in st in
     let w = written_in st c.args.scene.now in
@@ -921,8 +922,8 @@ formulas::member-returns-in-MapS t c =
     (mapped_is s w env c.args.sign c.args.above (who_data c.args.who.now) c.args.set.now c.get-in-MapS.result.now c.in-MapS.source c.in-MapS.n c.in-MapS.field-2 c.in-MapS.m c.get-in-MapS-2.result.now c.in-MapS.e c.in-MapS.is c.get-in-MapS.ensures c.get-in-MapS-2.ensures)
     c.mapped.ensures
 
-pub formulas::member-returns-in-FlatS : goal.formulas::member-returns-in-FlatS
-formulas::member-returns-in-FlatS t c =
+pub members::member-returns-in-FlatS : goal.members::member-returns-in-FlatS
+members::member-returns-in-FlatS t c =
     let st = c.args.start.now in
     let s = schema_in st in
     let w = written_in st c.args.scene.now in
@@ -931,8 +932,8 @@ formulas::member-returns-in-FlatS t c =
     (flat_is s w env c.args.sign c.args.above (who_data c.args.who.now) c.args.set.now c.get-in-FlatS.result.now c.in-FlatS.source c.get-in-FlatS-2.result.now c.in-FlatS.body c.in-FlatS.n c.in-FlatS.field-2 c.in-FlatS.is c.get-in-FlatS.ensures c.get-in-FlatS-2.ensures)
     c.flat.ensures
 
-pub formulas::member-returns-in-IfS : goal.formulas::member-returns-in-IfS
-formulas::member-returns-in-IfS t c =
+pub members::member-returns-in-IfS : goal.members::member-returns-in-IfS
+members::member-returns-in-IfS t c =
     let st = c.args.start.now in
     let s = schema_in st in
     let w = written_in st c.args.scene.now in
@@ -941,8 +942,8 @@ formulas::member-returns-in-IfS t c =
     (if_is s w env c.args.sign c.args.above (who_data c.args.who.now) c.args.set.now c.get-in-IfS-2.result.now c.in-IfS.a c.get-in-IfS-3.result.now c.in-IfS.b c.get-in-IfS.result.now c.in-IfS.c c.in-IfS.is c.get-in-IfS-2.ensures c.get-in-IfS-3.ensures c.get-in-IfS.ensures)
     c.choose.ensures
 
-pub formulas::member-returns-in-MatchS : goal.formulas::member-returns-in-MatchS
-formulas::member-returns-in-MatchS t c =
+pub members::member-returns-in-MatchS : goal.members::member-returns-in-MatchS
+members::member-returns-in-MatchS t c =
     let st = c.args.start.now in
     let s = schema_in st in
     let w = written_in st c.args.scene.now in
@@ -951,12 +952,12 @@ formulas::member-returns-in-MatchS t c =
     (match_is s w env c.args.sign c.args.above (who_data c.args.who.now) c.args.set.now c.get-in-MatchS.result.now c.in-MatchS.a c.get-in-MatchS-2.result.now c.in-MatchS.c c.get-in-MatchS-3.result.now c.in-MatchS.of c.in-MatchS.field-2 c.in-MatchS.is c.get-in-MatchS.ensures c.get-in-MatchS-2.ensures c.get-in-MatchS-3.ensures)
     c.walk-in-MatchS.ensures
 
-pub formulas::mapped-returns-in_err-inner : goal.formulas::mapped-returns-in_err-inner
-formulas::mapped-returns-in_err-inner t c =
+pub members::mapped-returns-in_err-inner : goal.members::mapped-returns-in_err-inner
+members::mapped-returns-in_err-inner t c =
     let p = err_from_is_err_and c.from_residual-in_err-inner.result c.from_residual-in_err-inner.ensures.1 in rw (p.1, p.2) tt
 
-pub formulas::mapped-returns-in_err-body : goal.formulas::mapped-returns-in_err-body
-formulas::mapped-returns-in_err-body t c =
+pub members::mapped-returns-in_err-body : goal.members::mapped-returns-in_err-body
+members::mapped-returns-in_err-body t c =
     let st = c.args.start.now in
     let s = schema_in st in
     let w = written_in st c.args.scene.now in
@@ -964,16 +965,16 @@ formulas::mapped-returns-in_err-body t c =
     let p = err_from_is_err_and c.from_residual-in_err-body.result c.from_residual-in_err-body.ensures.1 in
     made_stop (size (mapped_body s w env c.args.sign c.args.above (set_of c.args.source.now) c.args.n c.args.m (expr_of c.args.e.now) (who_data c.args.who.now) c.args.sort c.in_ok-inner.inner)) (size (mapped_formula s w env (set_of c.args.source.now) c.args.n c.args.m (expr_of c.args.e.now) (who_data c.args.who.now) c.args.sign c.args.above)) _ _ (mapped_formula s w env (set_of c.args.source.now) c.args.n c.args.m (expr_of c.args.e.now) (who_data c.args.who.now) c.args.sign c.args.above) _ _ _ p.1 p.2 (below_le c.args.sign c.args.sort (mapped_body s w env c.args.sign c.args.above (set_of c.args.source.now) c.args.n c.args.m (expr_of c.args.e.now) (who_data c.args.who.now) c.args.sort c.in_ok-inner.inner) (mapped_formula s w env (set_of c.args.source.now) c.args.n c.args.m (expr_of c.args.e.now) (who_data c.args.who.now) c.args.sign c.args.above) (mapped_same s w env c.args.sign c.args.above (set_of c.args.source.now) c.args.n c.args.m (expr_of c.args.e.now) (who_data c.args.who.now) c.args.sort c.in_ok-inner.inner c.requires c.in_ok-inner.ensures)) c.in_err-body.ensures
 
-pub formulas::mapped-exists_if-requires : goal.formulas::mapped-exists_if-requires
-formulas::mapped-exists_if-requires t c =
+pub members::mapped-exists_if-requires : goal.members::mapped-exists_if-requires
+members::mapped-exists_if-requires t c =
     let st = c.args.start.now in
     let s = schema_in st in
     let w = written_in st c.args.scene.now in
     let env = scene_data st c.args.scene.now in
     part_made _ _ (size (mapped_body s w env c.args.sign c.args.above (set_of c.args.source.now) c.args.n c.args.m (expr_of c.args.e.now) (who_data c.args.who.now) c.args.sort c.in_ok-inner.inner)) (mapped_body s w env c.args.sign c.args.above (set_of c.args.source.now) c.args.n c.args.m (expr_of c.args.e.now) (who_data c.args.who.now) c.args.sort c.in_ok-inner.inner) _ c.in_ok-body.ensures
 
-pub formulas::mapped-returns : goal.formulas::mapped-returns
-formulas::mapped-returns t c =
+pub members::mapped-returns : goal.members::mapped-returns
+members::mapped-returns t c =
     let st = c.args.start.now in
     let s = schema_in st in
     let w = written_in st c.args.scene.now in
@@ -981,12 +982,12 @@ formulas::mapped-returns t c =
     makes_same _ _ _ _ _ (mapped_same s w env c.args.sign c.args.above (set_of c.args.source.now) c.args.n c.args.m (expr_of c.args.e.now) (who_data c.args.who.now) c.args.sort c.in_ok-inner.inner c.requires c.in_ok-inner.ensures)
     (one_made _ _ _ (mapped_body s w env c.args.sign c.args.above (set_of c.args.source.now) c.args.n c.args.m (expr_of c.args.e.now) (who_data c.args.who.now) c.args.sort c.in_ok-inner.inner) (exists_if c.args.sign c.args.sort) _ _ (size-exists_if c.args.sign c.args.sort (mapped_body s w env c.args.sign c.args.above (set_of c.args.source.now) c.args.n c.args.m (expr_of c.args.e.now) (who_data c.args.who.now) c.args.sort c.in_ok-inner.inner)) c.in_ok-body.ensures c.exists_if.ensures)
 
-pub formulas::flat-returns-in_err-inner : goal.formulas::flat-returns-in_err-inner
-formulas::flat-returns-in_err-inner t c =
+pub members::flat-returns-in_err-inner : goal.members::flat-returns-in_err-inner
+members::flat-returns-in_err-inner t c =
     let p = err_from_is_err_and c.from_residual-in_err-inner.result c.from_residual-in_err-inner.ensures.1 in rw (p.1, p.2) tt
 
-pub formulas::flat-returns-in_err-body : goal.formulas::flat-returns-in_err-body
-formulas::flat-returns-in_err-body t c =
+pub members::flat-returns-in_err-body : goal.members::flat-returns-in_err-body
+members::flat-returns-in_err-body t c =
     let st = c.args.start.now in
     let s = schema_in st in
     let w = written_in st c.args.scene.now in
@@ -994,16 +995,16 @@ formulas::flat-returns-in_err-body t c =
     let p = err_from_is_err_and c.from_residual-in_err-body.result c.from_residual-in_err-body.ensures.1 in
     made_stop (size (flat_body s w env c.args.sign c.args.above (set_of c.args.source.now) c.args.n (set_of c.args.body.now) (who_data c.args.who.now) c.args.sort c.in_ok-inner.inner)) (size (flat_formula s w env (set_of c.args.source.now) c.args.n (set_of c.args.body.now) (who_data c.args.who.now) c.args.sign c.args.above)) _ _ (flat_formula s w env (set_of c.args.source.now) c.args.n (set_of c.args.body.now) (who_data c.args.who.now) c.args.sign c.args.above) _ _ _ p.1 p.2 (below_le c.args.sign c.args.sort (flat_body s w env c.args.sign c.args.above (set_of c.args.source.now) c.args.n (set_of c.args.body.now) (who_data c.args.who.now) c.args.sort c.in_ok-inner.inner) (flat_formula s w env (set_of c.args.source.now) c.args.n (set_of c.args.body.now) (who_data c.args.who.now) c.args.sign c.args.above) (flat_same s w env c.args.sign c.args.above (set_of c.args.source.now) c.args.n (set_of c.args.body.now) (who_data c.args.who.now) c.args.sort c.in_ok-inner.inner c.requires c.in_ok-inner.ensures)) c.in_err-body.ensures
 
-pub formulas::flat-exists_if-requires : goal.formulas::flat-exists_if-requires
-formulas::flat-exists_if-requires t c =
+pub members::flat-exists_if-requires : goal.members::flat-exists_if-requires
+members::flat-exists_if-requires t c =
     let st = c.args.start.now in
     let s = schema_in st in
     let w = written_in st c.args.scene.now in
     let env = scene_data st c.args.scene.now in
     part_made _ _ (size (flat_body s w env c.args.sign c.args.above (set_of c.args.source.now) c.args.n (set_of c.args.body.now) (who_data c.args.who.now) c.args.sort c.in_ok-inner.inner)) (flat_body s w env c.args.sign c.args.above (set_of c.args.source.now) c.args.n (set_of c.args.body.now) (who_data c.args.who.now) c.args.sort c.in_ok-inner.inner) _ c.in_ok-body.ensures
 
-pub formulas::flat-returns : goal.formulas::flat-returns
-formulas::flat-returns t c =
+pub members::flat-returns : goal.members::flat-returns
+members::flat-returns t c =
     let st = c.args.start.now in
     let s = schema_in st in
     let w = written_in st c.args.scene.now in
@@ -1011,16 +1012,16 @@ formulas::flat-returns t c =
     makes_same _ _ _ _ _ (flat_same s w env c.args.sign c.args.above (set_of c.args.source.now) c.args.n (set_of c.args.body.now) (who_data c.args.who.now) c.args.sort c.in_ok-inner.inner c.requires c.in_ok-inner.ensures)
     (one_made _ _ _ (flat_body s w env c.args.sign c.args.above (set_of c.args.source.now) c.args.n (set_of c.args.body.now) (who_data c.args.who.now) c.args.sort c.in_ok-inner.inner) (exists_if c.args.sign c.args.sort) _ _ (size-exists_if c.args.sign c.args.sort (flat_body s w env c.args.sign c.args.above (set_of c.args.source.now) c.args.n (set_of c.args.body.now) (who_data c.args.who.now) c.args.sort c.in_ok-inner.inner)) c.in_ok-body.ensures c.exists_if.ensures)
 
-pub formulas::item-returns-in_err-fuel : goal.formulas::item-returns-in_err-fuel
-formulas::item-returns-in_err-fuel t c =
+pub members::item-returns-in_err-fuel : goal.members::item-returns-in_err-fuel
+members::item-returns-in_err-fuel t c =
     let p = err_from_is_err_and c.from_residual.result c.from_residual.ensures.1 in λ f h. rw (p.1, p.2) tt
 
-pub formulas::meets_one-returns-in_err-fuel : goal.formulas::meets_one-returns-in_err-fuel
-formulas::meets_one-returns-in_err-fuel t c =
+pub filters::meets_one-returns-in_err-fuel : goal.filters::meets_one-returns-in_err-fuel
+filters::meets_one-returns-in_err-fuel t c =
     let p = err_from_is_err_and c.from_residual.result c.from_residual.ensures.1 in λ f h. rw (p.1, p.2) tt
 
-pub formulas::item-returns-in-Static : goal.formulas::item-returns-in-Static
-formulas::item-returns-in-Static t c =
+pub members::item-returns-in-Static : goal.members::item-returns-in-Static
+members::item-returns-in-Static t c =
     let st = c.args.start.now in
     let s = schema_in st in
     let w = written_in st c.args.scene.now in
@@ -1029,8 +1030,8 @@ formulas::item-returns-in-Static t c =
     (ap constant (c.same_truth.ensures ∙ ap (same_truth c.args.sign) c.is_static-is.ensures) ∙ static_head s w env (who_data c.args.who.now) c.args.sign c.args.above c.args.item.now c.in-Static.n f c.in-Static.is h)
     c.constant.ensures
 
-pub formulas::item-returns-in-One : goal.formulas::item-returns-in-One
-formulas::item-returns-in-One t c =
+pub members::item-returns-in-One : goal.members::item-returns-in-One
+members::item-returns-in-One t c =
     let st = c.args.start.now in
     let s = schema_in st in
     let w = written_in st c.args.scene.now in
@@ -1039,16 +1040,16 @@ formulas::item-returns-in-One t c =
     (record_head s w env (who_data c.args.who.now) c.args.sign c.args.above c.args.item.now c.in-One.m c.in-One.e f c.in-One.is h)
     c.walk.ensures
 
-pub formulas::listed-returns-in-empty : goal.formulas::listed-returns-in-empty
-formulas::listed-returns-in-empty t c =
+pub members::listed-returns-in-empty : goal.members::listed-returns-in-empty
+members::listed-returns-in-empty t c =
     let st = c.args.start.now in
     let s = schema_in st in
     let w = written_in st c.args.scene.now in
     let env = scene_data st c.args.scene.now in
     makes_same _ _ _ _ _ (ap (λ xs. any_if c.args.sign (items_formulas s w env (who_data c.args.who.now) c.args.sign c.args.above xs)) (sym (none_of c.args.items.now c.in-empty.len_below))) c.constant.ensures
 
-pub formulas::listed-returns-in_err-id-in-len1-up : goal.formulas::listed-returns-in_err-id-in-len1-up
-formulas::listed-returns-in_err-id-in-len1-up t c =
+pub members::listed-returns-in_err-id-in-len1-up : goal.members::listed-returns-in_err-id-in-len1-up
+members::listed-returns-in_err-id-in-len1-up t c =
     let st = c.args.start.now in
     let s = schema_in st in
     let w = written_in st c.args.scene.now in
@@ -1063,8 +1064,8 @@ formulas::listed-returns-in_err-id-in-len1-up t c =
     let p = err_from_is_err_and c.from_residual-in_err-id-in-len1-up.result c.from_residual-in_err-id-in-len1-up.ensures.1 in
     made_stop (size f) (size (any_if c.args.sign (items_formulas s w env (who_data c.args.who.now) c.args.sign c.args.above xs))) _ _ (any_if c.args.sign (items_formulas s w env (who_data c.args.who.now) c.args.sign c.args.above xs)) _ _ _ p.1 p.2 (any_le c.args.sign _ fs f path) (c.in_err-id-in-len1-up.ensures f h)
 
-pub formulas::listed-returns-in_ok-id-in-len1-up : goal.formulas::listed-returns-in_ok-id-in-len1-up
-formulas::listed-returns-in_ok-id-in-len1-up t c =
+pub members::listed-returns-in_ok-id-in-len1-up : goal.members::listed-returns-in_ok-id-in-len1-up
+members::listed-returns-in_ok-id-in-len1-up t c =
     let st = c.args.start.now in
     let s = schema_in st in
     let w = written_in st c.args.scene.now in
@@ -1078,8 +1079,8 @@ formulas::listed-returns-in_ok-id-in-len1-up t c =
     let path : items_formulas s w env (who_data c.args.who.now) c.args.sign c.args.above xs ≡ f ∷ fs = items_split s w env (who_data c.args.who.now) c.args.sign c.args.above xs (tail_of xs) x split in
     makes_same _ _ _ _ _ (ap (any_if c.args.sign) (sym path)) (first_made _ _ _ f fs (not c.args.sign) _ _ (c.in_ok-id-in-len1-up.ensures f h) c.more_items.ensures)
 
-pub formulas::more_items-returns-in-empty : goal.formulas::more_items-returns-in-empty
-formulas::more_items-returns-in-empty t c =
+pub members::more_items-returns-in-empty : goal.members::more_items-returns-in-empty
+members::more_items-returns-in-empty t c =
     let st = c.args.start.now in
     let s = schema_in st in
     let w = written_in st c.args.scene.now in
@@ -1087,8 +1088,8 @@ formulas::more_items-returns-in-empty t c =
     let P : List TItem → Type 0 = λ xs. MakesFor (rest_cost (items_formulas s w env (who_data c.args.who.now) c.args.sign c.args.above xs)) c.args.w.now (Ok c.args.id) c.args.w.now (fold (and_if (not c.args.sign)) (formula_of c.args.w.now.arena c.args.id) (items_formulas s w env (who_data c.args.who.now) c.args.sign c.args.above xs)) in
     subst P (sym (none_of c.args.items.now c.in-empty.len_below)) (none_more c.args.w.now c.args.id c.requires)
 
-pub formulas::more_items-returns-in_err-a-in-len1-up : goal.formulas::more_items-returns-in_err-a-in-len1-up
-formulas::more_items-returns-in_err-a-in-len1-up t c =
+pub members::more_items-returns-in_err-a-in-len1-up : goal.members::more_items-returns-in_err-a-in-len1-up
+members::more_items-returns-in_err-a-in-len1-up t c =
     let st = c.args.start.now in
     let s = schema_in st in
     let w = written_in st c.args.scene.now in
@@ -1104,8 +1105,8 @@ formulas::more_items-returns-in_err-a-in-len1-up t c =
     made_split _ _ _ (and_if (not c.args.sign)) (formula_of c.args.w.now.arena c.args.id) _ fs f path
     (made_stop (size f) (rest_cost (f ∷ fs)) _ _ (fold (and_if (not c.args.sign)) (formula_of c.args.w.now.arena c.args.id) (f ∷ fs)) _ _ _ p.1 p.2 (rest_le f fs) (c.in_err-a-in-len1-up.ensures f h))
 
-pub formulas::more_items-and_if-requires-clause-left : goal.formulas::more_items-and_if-requires-clause-left
-formulas::more_items-and_if-requires-clause-left t c =
+pub members::more_items-and_if-requires-clause-left : goal.members::more_items-and_if-requires-clause-left
+members::more_items-and_if-requires-clause-left t c =
     let st = c.args.start.now in
     let s = schema_in st in
     let w = written_in st c.args.scene.now in
@@ -1119,8 +1120,8 @@ formulas::more_items-and_if-requires-clause-left t c =
     let path : items_formulas s w env (who_data c.args.who.now) c.args.sign c.args.above xs ≡ f ∷ fs = items_split s w env (who_data c.args.who.now) c.args.sign c.args.above xs (tail_of xs) x split in
     part_kept _ _ (size f) f _ _ c.requires (c.in_ok-a-in-len1-up.ensures f h)
 
-pub formulas::more_items-and_if-requires-clause-right : goal.formulas::more_items-and_if-requires-clause-right
-formulas::more_items-and_if-requires-clause-right t c =
+pub members::more_items-and_if-requires-clause-right : goal.members::more_items-and_if-requires-clause-right
+members::more_items-and_if-requires-clause-right t c =
     let st = c.args.start.now in
     let s = schema_in st in
     let w = written_in st c.args.scene.now in
@@ -1134,8 +1135,8 @@ formulas::more_items-and_if-requires-clause-right t c =
     let path : items_formulas s w env (who_data c.args.who.now) c.args.sign c.args.above xs ≡ f ∷ fs = items_split s w env (who_data c.args.who.now) c.args.sign c.args.above xs (tail_of xs) x split in
     part_made _ _ (size f) f _ (c.in_ok-a-in-len1-up.ensures f h)
 
-pub formulas::more_items-returns-in_err-id-in-len1-up : goal.formulas::more_items-returns-in_err-id-in-len1-up
-formulas::more_items-returns-in_err-id-in-len1-up t c =
+pub members::more_items-returns-in_err-id-in-len1-up : goal.members::more_items-returns-in_err-id-in-len1-up
+members::more_items-returns-in_err-id-in-len1-up t c =
     let st = c.args.start.now in
     let s = schema_in st in
     let w = written_in st c.args.scene.now in
@@ -1151,12 +1152,12 @@ formulas::more_items-returns-in_err-id-in-len1-up t c =
     made_split _ _ _ (and_if (not c.args.sign)) (formula_of c.args.w.now.arena c.args.id) _ fs f path
     (later_stop _ _ _ (size f) 1 (rest_cost (f ∷ fs)) (fold (and_if (not c.args.sign)) (formula_of c.args.w.now.arena c.args.id) (f ∷ fs)) f _ _ _ _ (c.in_ok-a-in-len1-up.ensures f h) p.1 p.2 (rest_one_le f fs) c.in_err-id-in-len1-up.ensures)
 
-pub formulas::more_items-more_items-requires : goal.formulas::more_items-more_items-requires
-formulas::more_items-more_items-requires t c =
+pub members::more_items-more_items-requires : goal.members::more_items-more_items-requires
+members::more_items-more_items-requires t c =
     (omega arith, part_made _ _ 1 _ _ c.in_ok-id-in-len1-up.ensures)
 
-pub formulas::more_items-returns-in_ok-id-in-len1-up : goal.formulas::more_items-returns-in_ok-id-in-len1-up
-formulas::more_items-returns-in_ok-id-in-len1-up t c =
+pub members::more_items-returns-in_ok-id-in-len1-up : goal.members::more_items-returns-in_ok-id-in-len1-up
+members::more_items-returns-in_ok-id-in-len1-up t c =
     let st = c.args.start.now in
     let s = schema_in st in
     let w = written_in st c.args.scene.now in
@@ -1171,16 +1172,16 @@ formulas::more_items-returns-in_ok-id-in-len1-up t c =
     made_split _ _ _ (and_if (not c.args.sign)) (formula_of c.args.w.now.arena c.args.id) _ fs f path
     (more_made _ _ _ _ _ f fs (and_if (not c.args.sign)) _ _ _ _ c.requires (c.in_ok-a-in-len1-up.ensures f h) c.in_ok-id-in-len1-up.ensures c.more_items.ensures)
 
-pub formulas::meets-returns-in-empty : goal.formulas::meets-returns-in-empty
-formulas::meets-returns-in-empty t c =
+pub filters::meets-returns-in-empty : goal.filters::meets-returns-in-empty
+filters::meets-returns-in-empty t c =
     let st = c.args.start.now in
     let s = schema_in st in
     let w = written_in st c.args.scene.now in
     let env = scene_data st c.args.scene.now in
     makes_same _ _ _ _ _ (ap (λ xs. all_if c.args.sign (filters_formulas s w env c.args.m (term_data c.args.t.now) c.args.sign c.args.above xs)) (sym (none_of c.args.filters.now c.in-empty.len_below))) c.constant.ensures
 
-pub formulas::meets-returns-in_err-id-in-len1-up : goal.formulas::meets-returns-in_err-id-in-len1-up
-formulas::meets-returns-in_err-id-in-len1-up t c =
+pub filters::meets-returns-in_err-id-in-len1-up : goal.filters::meets-returns-in_err-id-in-len1-up
+filters::meets-returns-in_err-id-in-len1-up t c =
     let st = c.args.start.now in
     let s = schema_in st in
     let w = written_in st c.args.scene.now in
@@ -1195,8 +1196,8 @@ formulas::meets-returns-in_err-id-in-len1-up t c =
     let p = err_from_is_err_and c.from_residual-in_err-id-in-len1-up.result c.from_residual-in_err-id-in-len1-up.ensures.1 in
     made_stop (size f) (size (all_if c.args.sign (filters_formulas s w env c.args.m (term_data c.args.t.now) c.args.sign c.args.above xs))) _ _ (all_if c.args.sign (filters_formulas s w env c.args.m (term_data c.args.t.now) c.args.sign c.args.above xs)) _ _ _ p.1 p.2 (all_le c.args.sign _ fs f path) (c.in_err-id-in-len1-up.ensures f h)
 
-pub formulas::meets-returns-in_ok-id-in-len1-up : goal.formulas::meets-returns-in_ok-id-in-len1-up
-formulas::meets-returns-in_ok-id-in-len1-up t c =
+pub filters::meets-returns-in_ok-id-in-len1-up : goal.filters::meets-returns-in_ok-id-in-len1-up
+filters::meets-returns-in_ok-id-in-len1-up t c =
     let st = c.args.start.now in
     let s = schema_in st in
     let w = written_in st c.args.scene.now in
@@ -1210,8 +1211,8 @@ formulas::meets-returns-in_ok-id-in-len1-up t c =
     let path : filters_formulas s w env c.args.m (term_data c.args.t.now) c.args.sign c.args.above xs ≡ f ∷ fs = filters_split s w env c.args.m (term_data c.args.t.now) c.args.sign c.args.above xs (tail_of xs) x split in
     makes_same _ _ _ _ _ (ap (all_if c.args.sign) (sym path)) (first_made _ _ _ f fs c.args.sign _ _ (c.in_ok-id-in-len1-up.ensures f h) c.meets_more.ensures)
 
-pub formulas::meets_more-returns-in-empty : goal.formulas::meets_more-returns-in-empty
-formulas::meets_more-returns-in-empty t c =
+pub filters::meets_more-returns-in-empty : goal.filters::meets_more-returns-in-empty
+filters::meets_more-returns-in-empty t c =
     let st = c.args.start.now in
     let s = schema_in st in
     let w = written_in st c.args.scene.now in
@@ -1219,8 +1220,8 @@ formulas::meets_more-returns-in-empty t c =
     let P : List TFilter → Type 0 = λ xs. MakesFor (rest_cost (filters_formulas s w env c.args.m (term_data c.args.t.now) c.args.sign c.args.above xs)) c.args.w.now (Ok c.args.id) c.args.w.now (fold (and_if c.args.sign) (formula_of c.args.w.now.arena c.args.id) (filters_formulas s w env c.args.m (term_data c.args.t.now) c.args.sign c.args.above xs)) in
     subst P (sym (none_of c.args.filters.now c.in-empty.len_below)) (none_more c.args.w.now c.args.id c.requires)
 
-pub formulas::meets_more-returns-in_err-a-in-len1-up : goal.formulas::meets_more-returns-in_err-a-in-len1-up
-formulas::meets_more-returns-in_err-a-in-len1-up t c =
+pub filters::meets_more-returns-in_err-a-in-len1-up : goal.filters::meets_more-returns-in_err-a-in-len1-up
+filters::meets_more-returns-in_err-a-in-len1-up t c =
     let st = c.args.start.now in
     let s = schema_in st in
     let w = written_in st c.args.scene.now in
@@ -1236,8 +1237,8 @@ formulas::meets_more-returns-in_err-a-in-len1-up t c =
     made_split _ _ _ (and_if c.args.sign) (formula_of c.args.w.now.arena c.args.id) _ fs f path
     (made_stop (size f) (rest_cost (f ∷ fs)) _ _ (fold (and_if c.args.sign) (formula_of c.args.w.now.arena c.args.id) (f ∷ fs)) _ _ _ p.1 p.2 (rest_le f fs) (c.in_err-a-in-len1-up.ensures f h))
 
-pub formulas::meets_more-and_if-requires-clause-left : goal.formulas::meets_more-and_if-requires-clause-left
-formulas::meets_more-and_if-requires-clause-left t c =
+pub filters::meets_more-and_if-requires-clause-left : goal.filters::meets_more-and_if-requires-clause-left
+filters::meets_more-and_if-requires-clause-left t c =
     let st = c.args.start.now in
     let s = schema_in st in
     let w = written_in st c.args.scene.now in
@@ -1251,8 +1252,8 @@ formulas::meets_more-and_if-requires-clause-left t c =
     let path : filters_formulas s w env c.args.m (term_data c.args.t.now) c.args.sign c.args.above xs ≡ f ∷ fs = filters_split s w env c.args.m (term_data c.args.t.now) c.args.sign c.args.above xs (tail_of xs) x split in
     part_kept _ _ (size f) f _ _ c.requires (c.in_ok-a-in-len1-up.ensures f h)
 
-pub formulas::meets_more-and_if-requires-clause-right : goal.formulas::meets_more-and_if-requires-clause-right
-formulas::meets_more-and_if-requires-clause-right t c =
+pub filters::meets_more-and_if-requires-clause-right : goal.filters::meets_more-and_if-requires-clause-right
+filters::meets_more-and_if-requires-clause-right t c =
     let st = c.args.start.now in
     let s = schema_in st in
     let w = written_in st c.args.scene.now in
@@ -1266,8 +1267,8 @@ formulas::meets_more-and_if-requires-clause-right t c =
     let path : filters_formulas s w env c.args.m (term_data c.args.t.now) c.args.sign c.args.above xs ≡ f ∷ fs = filters_split s w env c.args.m (term_data c.args.t.now) c.args.sign c.args.above xs (tail_of xs) x split in
     part_made _ _ (size f) f _ (c.in_ok-a-in-len1-up.ensures f h)
 
-pub formulas::meets_more-returns-in_err-id-in-len1-up : goal.formulas::meets_more-returns-in_err-id-in-len1-up
-formulas::meets_more-returns-in_err-id-in-len1-up t c =
+pub filters::meets_more-returns-in_err-id-in-len1-up : goal.filters::meets_more-returns-in_err-id-in-len1-up
+filters::meets_more-returns-in_err-id-in-len1-up t c =
     let st = c.args.start.now in
     let s = schema_in st in
     let w = written_in st c.args.scene.now in
@@ -1283,12 +1284,12 @@ formulas::meets_more-returns-in_err-id-in-len1-up t c =
     made_split _ _ _ (and_if c.args.sign) (formula_of c.args.w.now.arena c.args.id) _ fs f path
     (later_stop _ _ _ (size f) 1 (rest_cost (f ∷ fs)) (fold (and_if c.args.sign) (formula_of c.args.w.now.arena c.args.id) (f ∷ fs)) f _ _ _ _ (c.in_ok-a-in-len1-up.ensures f h) p.1 p.2 (rest_one_le f fs) c.in_err-id-in-len1-up.ensures)
 
-pub formulas::meets_more-meets_more-requires : goal.formulas::meets_more-meets_more-requires
-formulas::meets_more-meets_more-requires t c =
+pub filters::meets_more-meets_more-requires : goal.filters::meets_more-meets_more-requires
+filters::meets_more-meets_more-requires t c =
     (omega arith, part_made _ _ 1 _ _ c.in_ok-id-in-len1-up.ensures)
 
-pub formulas::meets_more-returns-in_ok-id-in-len1-up : goal.formulas::meets_more-returns-in_ok-id-in-len1-up
-formulas::meets_more-returns-in_ok-id-in-len1-up t c =
+pub filters::meets_more-returns-in_ok-id-in-len1-up : goal.filters::meets_more-returns-in_ok-id-in-len1-up
+filters::meets_more-returns-in_ok-id-in-len1-up t c =
     let st = c.args.start.now in
     let s = schema_in st in
     let w = written_in st c.args.scene.now in
@@ -1303,8 +1304,8 @@ formulas::meets_more-returns-in_ok-id-in-len1-up t c =
     made_split _ _ _ (and_if c.args.sign) (formula_of c.args.w.now.arena c.args.id) _ fs f path
     (more_made _ _ _ _ _ f fs (and_if c.args.sign) _ _ _ _ c.requires (c.in_ok-a-in-len1-up.ensures f h) c.in_ok-id-in-len1-up.ensures c.meets_more.ensures)
 
-pub formulas::meets_one-returns : goal.formulas::meets_one-returns
-formulas::meets_one-returns t c =
+pub filters::meets_one-returns : goal.filters::meets_one-returns
+filters::meets_one-returns t c =
     let st = c.args.start.now in
     let s = schema_in st in
     let w = written_in st c.args.scene.now in
@@ -1314,8 +1315,8 @@ formulas::meets_one-returns t c =
     ∙ filter_head s w env c.args.m (term_data c.args.t.now) c.args.sign c.args.above c.args.filter.now c.test_of-test.result.0 c.test_of-test.result.1 c.test_of-test.result.2.now g c.test_of-test.ensures h)
     c.pass.ensures
 
-pub formulas::listed-more_items-requires : goal.formulas::listed-more_items-requires
-formulas::listed-more_items-requires t c =
+pub members::listed-more_items-requires : goal.members::listed-more_items-requires
+members::listed-more_items-requires t c =
     let st = c.args.start.now in
     let s = schema_in st in
     let w = written_in st c.args.scene.now in
@@ -1329,8 +1330,8 @@ formulas::listed-more_items-requires t c =
     let path : items_formulas s w env (who_data c.args.who.now) c.args.sign c.args.above xs ≡ f ∷ fs = items_split s w env (who_data c.args.who.now) c.args.sign c.args.above xs (tail_of xs) x split in
     (omega arith, part_made _ _ (size f) f _ (c.in_ok-id-in-len1-up.ensures f h))
 
-pub formulas::meets-meets_more-requires : goal.formulas::meets-meets_more-requires
-formulas::meets-meets_more-requires t c =
+pub filters::meets-meets_more-requires : goal.filters::meets-meets_more-requires
+filters::meets-meets_more-requires t c =
     let st = c.args.start.now in
     let s = schema_in st in
     let w = written_in st c.args.scene.now in
@@ -1379,8 +1380,8 @@ formulas::write-returns-in-Reach t c =
     (ap (part_data st c.args.above) (sym c.in-Reach.is))
     c.reach.ensures
 
-pub formulas::finish-returns-in-Taken : goal.formulas::finish-returns-in-Taken
-formulas::finish-returns-in-Taken t c =
+pub ends::finish-returns-in-Taken : goal.ends::finish-returns-in-Taken
+ends::finish-returns-in-Taken t c =
     let st = c.args.start.now in
     makes_same _ _ _ _ _
     (ap (λ (g : Goal). goal_data st g c.args.above (end_data st c.args.end.now)) (sym c.in-Taken.is))
@@ -1410,8 +1411,8 @@ reaches::taken-returns-else-sign t c =
     (ap (λ (b : Bool). taken_data s w (term_data c.args.y.now) env b c.args.used.now c.args.above (end_data st c.args.end.now)) (sym c.if-sign.false))
     c.end_if_none.ensures
 
-pub formulas::finish-returns-in-Cost : goal.formulas::finish-returns-in-Cost
-formulas::finish-returns-in-Cost t c =
+pub ends::finish-returns-in-Cost : goal.ends::finish-returns-in-Cost
+ends::finish-returns-in-Cost t c =
     let st = c.args.start.now in
     makes_same _ _ _ _ _
     (ap (λ (g : Goal). goal_data st g c.args.above (end_data st c.args.end.now)) (sym c.in-Cost.is))

@@ -15,98 +15,98 @@ decreases-formulas::ask_where l = l.fuel
 abbrev pub decreases-formulas::choose_ask : goal.decreases-formulas::choose_ask
 decreases-formulas::choose_ask l = l.fuel
 
-abbrev pub decreases-formulas::ask : goal.decreases-formulas::ask
-decreases-formulas::ask l = l.fuel
+abbrev pub decreases-walking::ask : goal.decreases-walking::ask
+decreases-walking::ask l = l.fuel
 
-abbrev pub decreases-formulas::walk : goal.decreases-formulas::walk
-decreases-formulas::walk l = l.fuel
+abbrev pub decreases-walking::walk : goal.decreases-walking::walk
+decreases-walking::walk l = l.fuel
 
-abbrev pub decreases-formulas::wrap : goal.decreases-formulas::wrap
-decreases-formulas::wrap l = l.fuel
+abbrev pub decreases-walking::wrap : goal.decreases-walking::wrap
+decreases-walking::wrap l = l.fuel
 
-abbrev pub decreases-formulas::ask_end : goal.decreases-formulas::ask_end
-decreases-formulas::ask_end l = l.fuel
+abbrev pub decreases-walking::ask_end : goal.decreases-walking::ask_end
+decreases-walking::ask_end l = l.fuel
 
-abbrev pub decreases-formulas::get : goal.decreases-formulas::get
-decreases-formulas::get l = l.fuel
+abbrev pub decreases-walking::get : goal.decreases-walking::get
+decreases-walking::get l = l.fuel
 
-abbrev pub decreases-formulas::field : goal.decreases-formulas::field
-decreases-formulas::field l = l.fuel
+abbrev pub decreases-walking::field : goal.decreases-walking::field
+decreases-walking::field l = l.fuel
 
-abbrev pub decreases-formulas::chained : goal.decreases-formulas::chained
-decreases-formulas::chained l = l.fuel
+abbrev pub decreases-walking::chained : goal.decreases-walking::chained
+decreases-walking::chained l = l.fuel
 
-abbrev pub decreases-formulas::chained_far : goal.decreases-formulas::chained_far
-decreases-formulas::chained_far l = l.fuel
+abbrev pub decreases-walking::chained_far : goal.decreases-walking::chained_far
+decreases-walking::chained_far l = l.fuel
 
-abbrev pub decreases-formulas::take_apart : goal.decreases-formulas::take_apart
-decreases-formulas::take_apart l = l.fuel
+abbrev pub decreases-walking::take_apart : goal.decreases-walking::take_apart
+decreases-walking::take_apart l = l.fuel
 
-abbrev pub decreases-formulas::finish : goal.decreases-formulas::finish
-decreases-formulas::finish l = l.fuel
+abbrev pub decreases-ends::finish : goal.decreases-ends::finish
+decreases-ends::finish l = l.fuel
 
-abbrev pub decreases-formulas::end_holds : goal.decreases-formulas::end_holds
-decreases-formulas::end_holds l = l.fuel
+abbrev pub decreases-ends::end_holds : goal.decreases-ends::end_holds
+decreases-ends::end_holds l = l.fuel
 
-abbrev pub decreases-formulas::end_has : goal.decreases-formulas::end_has
-decreases-formulas::end_has l = l.fuel
+abbrev pub decreases-ends::end_has : goal.decreases-ends::end_has
+decreases-ends::end_has l = l.fuel
 
-abbrev pub decreases-formulas::end_term : goal.decreases-formulas::end_term
-decreases-formulas::end_term l = l.fuel
+abbrev pub decreases-ends::end_term : goal.decreases-ends::end_term
+decreases-ends::end_term l = l.fuel
 
-abbrev pub decreases-formulas::at_term : goal.decreases-formulas::at_term
-decreases-formulas::at_term l = l.fuel
+abbrev pub decreases-ends::at_term : goal.decreases-ends::at_term
+decreases-ends::at_term l = l.fuel
 
-abbrev pub decreases-formulas::choose_set : goal.decreases-formulas::choose_set
-decreases-formulas::choose_set l = l.fuel
+abbrev pub decreases-ends::choose_set : goal.decreases-ends::choose_set
+decreases-ends::choose_set l = l.fuel
 
-abbrev pub decreases-formulas::holds : goal.decreases-formulas::holds
-decreases-formulas::holds l = l.fuel
+abbrev pub decreases-conditions::holds : goal.decreases-conditions::holds
+decreases-conditions::holds l = l.fuel
 
-abbrev pub decreases-formulas::condition : goal.decreases-formulas::condition
-decreases-formulas::condition l = l.fuel
+abbrev pub decreases-conditions::condition : goal.decreases-conditions::condition
+decreases-conditions::condition l = l.fuel
 
-abbrev pub decreases-formulas::same : goal.decreases-formulas::same
-decreases-formulas::same l = l.fuel
+abbrev pub decreases-conditions::same : goal.decreases-conditions::same
+decreases-conditions::same l = l.fuel
 
-abbrev pub decreases-formulas::equal : goal.decreases-formulas::equal
-decreases-formulas::equal l = l.fuel
+abbrev pub decreases-conditions::equal : goal.decreases-conditions::equal
+decreases-conditions::equal l = l.fuel
 
-abbrev pub decreases-formulas::less : goal.decreases-formulas::less
-decreases-formulas::less l = l.fuel
+abbrev pub decreases-conditions::less : goal.decreases-conditions::less
+decreases-conditions::less l = l.fuel
 
-abbrev pub decreases-formulas::compare : goal.decreases-formulas::compare
-decreases-formulas::compare l = l.fuel
+abbrev pub decreases-conditions::compare : goal.decreases-conditions::compare
+decreases-conditions::compare l = l.fuel
 
-abbrev pub decreases-formulas::pass : goal.decreases-formulas::pass
-decreases-formulas::pass l = l.fuel
+abbrev pub decreases-filters::pass : goal.decreases-filters::pass
+decreases-filters::pass l = l.fuel
 
-abbrev pub decreases-formulas::member : goal.decreases-formulas::member
-decreases-formulas::member l = l.fuel
+abbrev pub decreases-members::member : goal.decreases-members::member
+decreases-members::member l = l.fuel
 
-abbrev pub decreases-formulas::mapped : goal.decreases-formulas::mapped
-decreases-formulas::mapped l = l.fuel
+abbrev pub decreases-members::mapped : goal.decreases-members::mapped
+decreases-members::mapped l = l.fuel
 
-abbrev pub decreases-formulas::flat : goal.decreases-formulas::flat
-decreases-formulas::flat l = l.fuel
+abbrev pub decreases-members::flat : goal.decreases-members::flat
+decreases-members::flat l = l.fuel
 
-abbrev pub decreases-formulas::listed : goal.decreases-formulas::listed
-decreases-formulas::listed l = l.fuel
+abbrev pub decreases-members::listed : goal.decreases-members::listed
+decreases-members::listed l = l.fuel
 
-abbrev pub decreases-formulas::item : goal.decreases-formulas::item
-decreases-formulas::item l = l.fuel
+abbrev pub decreases-members::item : goal.decreases-members::item
+decreases-members::item l = l.fuel
 
-abbrev pub decreases-formulas::more_items : goal.decreases-formulas::more_items
-decreases-formulas::more_items l = l.fuel
+abbrev pub decreases-members::more_items : goal.decreases-members::more_items
+decreases-members::more_items l = l.fuel
 
-abbrev pub decreases-formulas::meets : goal.decreases-formulas::meets
-decreases-formulas::meets l = l.fuel
+abbrev pub decreases-filters::meets : goal.decreases-filters::meets
+decreases-filters::meets l = l.fuel
 
-abbrev pub decreases-formulas::meets_one : goal.decreases-formulas::meets_one
-decreases-formulas::meets_one l = l.fuel
+abbrev pub decreases-filters::meets_one : goal.decreases-filters::meets_one
+decreases-filters::meets_one l = l.fuel
 
-abbrev pub decreases-formulas::meets_more : goal.decreases-formulas::meets_more
-decreases-formulas::meets_more l = l.fuel
+abbrev pub decreases-filters::meets_more : goal.decreases-filters::meets_more
+decreases-filters::meets_more l = l.fuel
 
 abbrev pub decreases-reaches::reach : goal.decreases-reaches::reach
 decreases-reaches::reach l = l.fuel

@@ -340,6 +340,48 @@ fn added_fields_within_added_fields(rt: HostRuntime) -> Result<(), Fail> {
     Ok(())
 }
 
+/// Puts the text at the end so many times.
+fn repeat(text: &mut Vec<u8>, part: &[u8], times: u32) -> Result<(), AllocError> {
+    for _ in 0..times {
+        text.extend_from_slice(part)?;
+    }
+    Ok(())
+}
+
+/// Added fields, each with 62 negations, one in the other, of the one before, which goes then.
+fn negated(alloc: Global, fields: u16) -> Result<Vec<u8>, AllocError> {
+    let mut text = Vec::new(alloc);
+    for number in 1..=fields {
+        text.extend_from_slice(b"User::AddField(a")?;
+        push_number(alloc, &mut text, number)?;
+        text.extend_from_slice(b": Bool {read: none, write: none}, u -> ")?;
+        repeat(&mut text, b"!(", 62)?;
+        text.extend_from_slice(b"u.a")?;
+        push_number(alloc, &mut text, number - 1)?;
+        repeat(&mut text, b")", 62)?;
+        text.extend_from_slice(b")\nUser::RemoveField(a")?;
+        push_number(alloc, &mut text, number - 1)?;
+        text.extend_from_slice(b")\n")?;
+    }
+    Ok(text)
+}
+
+/// Negations that stand one in the other take no stack where formulas are written.
+#[test]
+fn many_negations(rt: HostRuntime) -> Result<(), Fail> {
+    let spec = b"principal model User {
+  create: public,
+  delete: none,
+  a0: Bool {read: public, write: none},
+}
+";
+    let script = negated(rt.alloc(), 120)?;
+    let ended = check_texts(rt.alloc(), spec, script.as_slice())?;
+    assert_eq!(rt; ended.status, Status::Done);
+    assert!(rt; ended.output.as_slice() == b"accepted obligations 120\n".as_slice());
+    Ok(())
+}
+
 /// One static more than there may be.
 #[test]
 fn statics_at_the_limit(rt: HostRuntime) -> Result<(), Fail> {
