@@ -9,8 +9,6 @@
 
 mod arguments;
 mod process;
-#[cfg(test)]
-mod tests;
 
 pub use arguments::{one_empty_word, words_of};
 pub use process::{program, run_to_exit};

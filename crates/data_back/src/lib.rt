@@ -26,8 +26,6 @@ mod shapes;
 mod standard;
 mod stop;
 mod tables;
-#[cfg(test)]
-mod tests;
 mod values;
 
 pub use databases::read_printed;

@@ -21,6 +21,7 @@ mod formulas;
 mod members;
 mod moved;
 mod obligations;
+mod pieces;
 mod read_back;
 mod written;
 

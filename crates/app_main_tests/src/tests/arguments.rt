@@ -1,6 +1,6 @@
 //! Arguments and the words that they are.
 
-use crate::arguments::words_of;
+use app_main::words_of;
 use std::alloc::{AllocError, Global};
 use std::test::Fail;
 use text_ast::Txt;

@@ -1,6 +1,6 @@
-//! What no clause says: that a text is read where there is memory, and worked pieces.
+//! Pieces of a printed text, read one after another.
 
-use crate::{Scanner, Stop};
+use data_back::{Scanner, Stop};
 use std::test::Fail;
 
 #[test]

@@ -1,3 +1,0 @@
-//! Tests of the program's own part.
-
-mod arguments;

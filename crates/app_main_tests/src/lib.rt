@@ -1,0 +1,5 @@
+//! Tests of app_main.
+#![tactic(auto)]
+
+#[cfg(test)]
+mod tests;

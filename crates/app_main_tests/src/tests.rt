@@ -1,0 +1,3 @@
+//! Tests of the words that arguments are.
+
+mod arguments;
