@@ -215,6 +215,7 @@ fn held_ids(
 }
 
 /// The principals of a set.
+// Long, since each form of a set has its own arm.
 #[cycle(gathering)]
 pub(crate) fn gather(
     alloc: Global,

@@ -117,6 +117,7 @@ fn record_of(database: &Database, m: ModelNo, who: Principal) -> Option<&Record>
 }
 
 /// The value of an expression.
+// Long, since each form of an expression has its own arm.
 #[cycle(meaning)]
 pub(crate) fn value<'d>(
     alloc: Global,
@@ -213,6 +214,7 @@ pub(crate) fn truth_at(
 }
 
 /// Whether a principal, or a record, is in a set.
+// Long, since each form of a set has its own arm.
 #[cycle(meaning)]
 pub(crate) fn holds(
     alloc: Global,
@@ -422,6 +424,7 @@ fn holds_with(
 }
 
 /// Whether the principal is the record of the model that the expression names at one of the ids.
+// Six beside the allocator: an expression where it stands, the ids, and who is compared.
 #[cycle(meaning)]
 fn maps_to(
     alloc: Global,

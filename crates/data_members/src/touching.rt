@@ -81,6 +81,7 @@ fn touch_field(
 }
 
 /// Adds the cells that the value of an expression is read from.
+// Long, since each form of an expression has its own arm.
 #[cycle(touching)]
 pub(crate) fn touch(
     alloc: Global,
@@ -153,6 +154,7 @@ pub(crate) fn touch(
 }
 
 /// Adds the cells that who is in a set is read from.
+// Long, since each form of a set has its own arm.
 #[cycle(touching)]
 pub(crate) fn touch_set(
     alloc: Global,

@@ -27,6 +27,7 @@ use std::alloc::{AllocError, Global};
 ///
 /// The terms name what a vocabulary of the formula speaks of. Each sort has the elements that its
 /// terms name, one where it has none and is not empty.
+// Six beside the allocator: a formula over a signature, its terms, its words, and what was found.
 pub fn make_structure(
     alloc: Global,
     arena: &Arena,

@@ -17,6 +17,15 @@ const MOST_TRIALS: usize = 256;
 /// How many facts are looked at for it.
 const MOST_FACTS: usize = 250_000;
 
+/// What classes are joined over: a search's problem, and what it found.
+#[derive(Clone, Copy)]
+struct Joining<'a> {
+    reader: Reader<'a>,
+    ground: Ground<'a>,
+    mixture: &'a Mixture,
+    pairs: &'a Pairs,
+}
+
 /// A term that is a record and is there.
 #[derive(Clone, Copy)]
 struct Record {
@@ -82,16 +91,15 @@ fn is_congruent(
 
 /// Whether the facts are by these classes as the solver found them, and no clause of congruence is
 /// broken.
-fn agrees(
-    alloc: Global,
-    reader: Reader<'_>,
-    ground: Ground<'_>,
-    mixture: &Mixture,
-    pairs: &Pairs,
-    classes: &[u32],
-) -> Result<bool, AllocError>
-    requires { IsWords reader.terms.now reader.words.now }
+fn agrees(alloc: Global, joining: Joining<'_>, classes: &[u32]) -> Result<bool, AllocError>
+    requires { IsWords joining.reader.terms.now joining.reader.words.now }
 {
+    let Joining {
+        reader,
+        ground,
+        mixture,
+        pairs,
+    } = joining;
     let columns = columns_of(alloc, reader, pairs, ground.facts, mixture, classes)?;
     let source = Source {
         arena: reader.arena,
@@ -109,16 +117,13 @@ fn agrees(
 /// The classes where one record has been tried as each of those before it, of which one may be it.
 fn join_one(
     alloc: Global,
-    reader: Reader<'_>,
-    ground: Ground<'_>,
-    mixture: &Mixture,
-    pairs: &Pairs,
+    joining: Joining<'_>,
     before: &[Record],
     record: Record,
     classes: &mut Vec<u32>,
     trials: &mut usize,
 ) -> Result<(), AllocError>
-    requires { IsWords reader.terms.now reader.words.now }
+    requires { IsWords joining.reader.terms.now joining.reader.words.now }
 {
     for other in before {
         let one = classes.get(other.id).copied().unwrap_or(0);
@@ -131,7 +136,7 @@ fn join_one(
         };
         *trials = left;
         let joined = with_one_for_another(alloc, classes.as_slice(), one, another)?;
-        if agrees(alloc, reader, ground, mixture, pairs, joined.as_slice())? {
+        if agrees(alloc, joining, joined.as_slice())? {
             *classes = joined;
             return Ok(());
         }
@@ -157,20 +162,16 @@ pub(crate) fn joined_classes(
     }
     let records = records_of(alloc, reader, &columns)?;
     let mut trials = MOST_TRIALS.min(MOST_FACTS / ground.facts.len().max(1));
+    let joining = Joining {
+        reader,
+        ground,
+        mixture,
+        pairs,
+    };
     for k in 0..records.len() {
         let before = &records.as_slice()[..k];
         let record = records[k];
-        join_one(
-            alloc,
-            reader,
-            ground,
-            mixture,
-            pairs,
-            before,
-            record,
-            &mut classes,
-            &mut trials,
-        )?;
+        join_one(alloc, joining, before, record, &mut classes, &mut trials)?;
     }
     Ok(classes)
 }

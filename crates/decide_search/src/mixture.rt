@@ -136,6 +136,7 @@ fn procedures(
 /// The terms are numbers below `terms`, of which those in `fixed` are pairwise different, and those
 /// of differences numbers below `numbers`, of which 0 is zero. `atoms` has one entry for each of
 /// the variables. Of these and of the clauses there are fewer than `TOO_MANY` of solve_solver.
+// The parameters are the solver's problem, and the terms and numbers that both procedures are over.
 pub fn search_mixed(
     alloc: Global,
     vars: u32,

@@ -73,6 +73,7 @@ fn few_variables(vars: u32, halves: &[FactNode]) -> Result<u32, AllocError>
 
 /// Searches for an assignment that meets clauses whose equalities and differences have a model,
 /// where so many terms are followed by texts, which are pairwise different.
+// Six beside the allocator: the solver's problem, and how many terms and texts it is over.
 fn search_checked(
     alloc: Global,
     terms: u32,
@@ -184,6 +185,7 @@ fn values_first(alloc: Global, facts: &[FactNode]) -> Result<Vec<PLit>, AllocErr
 }
 
 /// Searches for values that meet clauses, by the halves of equalities of numbers.
+// Six beside the allocator: what is read, and four lists of which the solver's problem is made.
 fn solve_with(
     alloc: Global,
     reader: Reader<'_>,

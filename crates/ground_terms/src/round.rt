@@ -181,6 +181,7 @@ fn list_parts(
 }
 
 /// What one round of applying gives from some terms.
+// Six beside the allocator: a round reads a signature and four lists, and adds to the terms.
 pub(crate) fn next_round(
     alloc: Global,
     signature: &Signature,

@@ -124,6 +124,7 @@ impl Printer {
     }
 
     /// Writes a command.
+    // Long, since each command has its own arm.
     fn command(&mut self, command: &Command) -> Result<(), AllocError>
         ensures { OnOk result (self.new ≡ self.old ++ text_of_marks (spelled_command command.now)) }
     {

@@ -7,6 +7,7 @@ use crate::{Command, Script};
 use std::alloc::{AllocError, Global};
 
 impl Copied for Command {
+    // Long, since each command has its own arm.
     fn copy(&self, alloc: Global) -> Result<Command, AllocError> {
         match self {
             Command::CreateModel(model, at) => {

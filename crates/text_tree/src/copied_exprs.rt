@@ -43,6 +43,7 @@ fn boxed_set(alloc: Global, set: &SetExpr) -> Result<Boxed<SetExpr>, AllocError>
 }
 
 /// An equal expression.
+// Long, since each form of an expression has its own arm.
 #[cycle(copies)]
 fn copy_expr(alloc: Global, e: &Expr) -> Result<Expr, AllocError>
     ensures { IfOk result (λ copy. copy ≡ e.now) }
@@ -168,6 +169,7 @@ fn copy_filters(alloc: Global, filters: &[Filter]) -> Result<Items<Filter>, Allo
 }
 
 /// An equal set.
+// Long, since each form of a set has its own arm.
 #[cycle(copies)]
 fn copy_set(alloc: Global, set: &SetExpr) -> Result<SetExpr, AllocError>
     ensures { IfOk result (λ copy. copy ≡ set.now) }

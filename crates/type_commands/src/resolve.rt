@@ -144,6 +144,7 @@ fn updated_field(
 }
 
 /// New policies of a field that may allow more, and why.
+// Six beside the allocator: a schema, and the parts of the command as its tree has them.
 #[tactic(auto, unfolding(crate::specs::Resolved::weakened_field))]
 fn weakened_field(
     alloc: Global,

@@ -26,6 +26,7 @@ use type_schema::{ModelNo, Schema, TBase, TExpr, TFilter, TItem, TSet, TTy};
 const BOOL: TTy = TTy::Plain(TBase::Bool);
 
 /// An expression, where this type is asked, or none.
+// Long, since each form of an expression has its own arm.
 #[cycle(typing)]
 pub fn typed_expr(
     alloc: Global,
@@ -103,6 +104,7 @@ pub fn typed_expr(
 }
 
 /// A set that is asked for this content.
+// Long, since each form of a set has its own arm.
 #[cycle(typing)]
 pub fn typed_set(
     alloc: Global,

@@ -125,6 +125,7 @@ pub fn field_of(
 }
 
 /// A comparison of two values of the base type.
+// Six beside the allocator: what is asked, and the parts of the comparison as its tree has them.
 pub fn comparison(
     alloc: Global,
     asked: Option<TTy>,
