@@ -7,5 +7,6 @@ mod reads;
 mod rows;
 mod sizes;
 mod store;
+mod store_data;
 mod surely;
 mod texts;
