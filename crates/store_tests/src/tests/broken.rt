@@ -1,9 +1,9 @@
 //! Rows that are not what a store holds.
 
-use crate::tests::{STORE_ROWS, database_of, word};
+use crate::tests::{SAMPLE, changed_sample};
+use sqlite::Error;
 use std::alloc::Global;
 use std::test::Fail;
-use store_sqlite::SqlKeeper;
 
 /// Each makes of the version, the specification and the models some that are no store's.
 const HEADS: [&str; 14] = [
@@ -51,16 +51,14 @@ const OTHERS: [&str; 10] = [
 ];
 
 /// A word for what is loaded of the rows after the change, and how many faults there were.
-fn word_after(alloc: Global, change: &str) -> Result<(&'static str, u64), Fail> {
-    let mut conn = database_of(alloc, STORE_ROWS)?;
-    conn.execute_batch(change)?;
-    let mut keeper = SqlKeeper::new(conn);
-    let word = word(alloc, &mut keeper);
+fn word_after(alloc: Global, change: &str) -> Result<(&'static str, u64), Error> {
+    let mut keeper = changed_sample(alloc, change)?;
+    let word = SAMPLE.word(alloc, &mut keeper);
     Ok((word, keeper.faults()))
 }
 
 /// The first change after which the rows are no fault.
-fn unnoticed(alloc: Global, changes: &[&'static str]) -> Result<Option<&'static str>, Fail> {
+fn unnoticed(alloc: Global, changes: &[&'static str]) -> Result<Option<&'static str>, Error> {
     for change in changes {
         if word_after(alloc, change)? != ("failed", 1) {
             return Ok(Some(*change));
@@ -94,7 +92,7 @@ fn views_and_indexes_are_no_tables(rt: HostRuntime) -> Result<(), Fail> {
         "CREATE VIEW names AS SELECT name FROM model",
     ] {
         let found = word_after(rt.alloc(), more)?;
-        assert!(rt; found == ("the rows", 0), "{more}");
+        assert!(rt; found == ("the sample", 0), "{more}");
     }
     Ok(())
 }

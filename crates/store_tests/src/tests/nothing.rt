@@ -1,6 +1,6 @@
 //! Keepers that hold nothing, and those that refuse.
 
-use crate::tests::word;
+use crate::tests::SAMPLE;
 use std::test::Fail;
 use store_keeper::{FailingKeeper, KeepCall, MemKeeper, OutOfMemoryKeeper, SureKeeper};
 
@@ -12,7 +12,7 @@ fn each_call_fails_in_turn(rt: HostRuntime) -> Result<(), Fail> {
         let mut keeper = MemKeeper::new(alloc, None, numbers);
         for call in 0..3u64 {
             let want = if call == failing { "failed" } else { "nothing" };
-            assert_eq!(rt; word(alloc, &mut keeper), want, "call {call}");
+            assert_eq!(rt; SAMPLE.word(alloc, &mut keeper), want, "call {call}");
         }
         let faults = if failing < 3 { 1 } else { 0 };
         assert_eq!(rt; keeper.faults(), faults);
@@ -27,7 +27,7 @@ fn each_call_fails_in_turn(rt: HostRuntime) -> Result<(), Fail> {
 fn sure_keepers_begin_empty(rt: HostRuntime) -> Result<(), Fail> {
     let alloc = rt.alloc();
     let mut keeper = SureKeeper::new(alloc, None);
-    assert_eq!(rt; word(alloc, &mut keeper), "nothing");
+    assert_eq!(rt; SAMPLE.word(alloc, &mut keeper), "nothing");
     assert!(rt; keeper.stored().is_none());
     assert!(rt; keeper.calls() == Some([KeepCall::Load].as_slice()));
     Ok(())
@@ -37,10 +37,10 @@ fn sure_keepers_begin_empty(rt: HostRuntime) -> Result<(), Fail> {
 fn refusing_keepers_refuse(rt: HostRuntime) -> Result<(), Fail> {
     let alloc = rt.alloc();
     let mut failing = FailingKeeper::new();
-    assert_eq!(rt; word(alloc, &mut failing), "failed");
-    assert_eq!(rt; word(alloc, &mut failing), "failed");
+    assert_eq!(rt; SAMPLE.word(alloc, &mut failing), "failed");
+    assert_eq!(rt; SAMPLE.word(alloc, &mut failing), "failed");
     assert_eq!(rt; failing.faults(), 2);
     let mut wanting = OutOfMemoryKeeper;
-    assert_eq!(rt; word(alloc, &mut wanting), "out of memory");
+    assert_eq!(rt; SAMPLE.word(alloc, &mut wanting), "out of memory");
     Ok(())
 }

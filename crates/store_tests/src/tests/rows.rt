@@ -1,45 +1,45 @@
 //! Rows that are read, and written elsewhere.
 
-ghost use Rattle.store_keeper.specs.Stored.{IsStored, stored_of};
-
-use crate::tests::{STORE_ROWS, database_of, keeper_of, replaced, stored, word};
+use crate::tests::{SAMPLE, changed_sample, keeper_of};
+use sqlite::{Error, MemStore};
 use std::alloc::Global;
 use std::test::Fail;
-use store_keeper::{Keeper, Stored};
 use store_sqlite::SqlKeeper;
+
+/// A word for what the rows say, and how many faults that was.
+fn read(alloc: Global, rows: &str) -> Result<(&'static str, u64), Error> {
+    let mut keeper = keeper_of(alloc, rows)?;
+    let word = SAMPLE.word(alloc, &mut keeper);
+    Ok((word, keeper.faults()))
+}
 
 #[test]
 fn rows_are_read(rt: HostRuntime) -> Result<(), Fail> {
-    let alloc = rt.alloc();
-    let mut keeper = keeper_of(alloc, STORE_ROWS)?;
-    assert_eq!(rt; word(alloc, &mut keeper), "the rows");
-    assert_eq!(rt; keeper.faults(), 0);
+    assert!(rt; read(rt.alloc(), SAMPLE.rows)? == ("the sample", 0));
+    assert!(rt; read(rt.alloc(), "")? == ("nothing", 0));
     Ok(())
 }
 
-/// A word for what is loaded once this is stored.
-fn word_after<K: Keeper>(alloc: Global, keeper: &mut K, s: &Stored) -> &'static str
-    requires { IsStored (stored_of s.now) }
-{
-    match replaced(alloc, keeper, s) {
-        "done" => word(alloc, keeper),
+/// A word for what is loaded once the sample is stored, or for what stood against that.
+fn word_after(alloc: Global, keeper: &mut SqlKeeper<MemStore>) -> &'static str {
+    match SAMPLE.replaces(alloc, keeper) {
+        "done" => SAMPLE.word(alloc, keeper),
         word => word,
     }
 }
 
-/// A word for what is loaded once this is stored in a database with these rows.
-fn word_over(alloc: Global, rows: &str, s: &Stored) -> Result<&'static str, Fail>
-    requires { IsStored (stored_of s.now) }
-{
+/// What is loaded once the sample is stored, twice, over the rows.
+fn words_after(alloc: Global, rows: &str) -> Result<(&'static str, &'static str), Error> {
     let mut keeper = keeper_of(alloc, rows)?;
-    Ok(word_after(alloc, &mut keeper, s))
+    let first = word_after(alloc, &mut keeper);
+    let again = word_after(alloc, &mut keeper);
+    Ok((first, again))
 }
 
 #[test]
 fn what_is_replaced_is_loaded(rt: HostRuntime) -> Result<(), Fail> {
-    let s = stored(rt.alloc())?;
-    for rows in ["", STORE_ROWS] {
-        assert_eq!(rt; word_over(rt.alloc(), rows, &s)?, "the rows");
+    for rows in ["", SAMPLE.rows] {
+        assert!(rt; words_after(rt.alloc(), rows)? == ("the sample", "the sample"));
     }
     Ok(())
 }
@@ -60,29 +60,32 @@ const ROW_CHANGES: [&str; 12] = [
     "INSERT INTO note (place, version, command, model, field, access, reason) VALUES (2, 3, 8, 'Page', NULL, 'delete', 'more')",
 ];
 
-/// A word for what is loaded once this is stored over the rows after the change.
-fn word_over_other(alloc: Global, change: &str, s: &Stored) -> Result<&'static str, Fail>
-    requires { IsStored (stored_of s.now) }
-{
-    let mut conn = database_of(alloc, STORE_ROWS)?;
-    conn.execute_batch(change)?;
-    let mut keeper = SqlKeeper::new(conn);
-    Ok(word_after(alloc, &mut keeper, s))
+/// The first change over which what is stored is not loaded.
+fn kept(alloc: Global, changes: &[&'static str]) -> Result<Option<&'static str>, Error> {
+    for change in changes {
+        let mut keeper = changed_sample(alloc, change)?;
+        if word_after(alloc, &mut keeper) != "the sample" {
+            return Ok(Some(*change));
+        }
+    }
+    Ok(None)
 }
 
 #[test]
 fn other_rows_are_replaced(rt: HostRuntime) -> Result<(), Fail> {
-    let s = stored(rt.alloc())?;
-    for change in ROW_CHANGES {
-        let found = word_over_other(rt.alloc(), change, &s)?;
-        assert_eq!(rt; found, "the rows", "{change}");
-    }
+    assert!(rt; kept(rt.alloc(), &ROW_CHANGES)? == None);
     Ok(())
+}
+
+/// A word for the answer where the sample is stored over the rows, and how many faults that was.
+fn written(alloc: Global, rows: &str) -> Result<(&'static str, u64), Error> {
+    let mut keeper = keeper_of(alloc, rows)?;
+    let word = SAMPLE.replaces(alloc, &mut keeper);
+    Ok((word, keeper.faults()))
 }
 
 #[test]
 fn a_transaction_that_is_open_is_a_fault(rt: HostRuntime) -> Result<(), Fail> {
-    let s = stored(rt.alloc())?;
-    assert_eq!(rt; word_over(rt.alloc(), "BEGIN", &s)?, "failed");
+    assert!(rt; written(rt.alloc(), "BEGIN")? == ("failed", 1));
     Ok(())
 }
