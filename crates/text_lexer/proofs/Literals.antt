@@ -4,6 +4,7 @@ use Rattle.std.proofs.lemmas.List.{length-take-le, take-append-drop}
 use Rattle.std.proofs.Math.Seq.{drop-append_seam}
 use Rattle.std.specs.Char.{is_ascii_control, is_ascii_digit, digit_char}
 use Rattle.std.specs.Int.{is_in_range}
+use Rattle.std.specs.List.{prefix_len}
 use Rattle.std.proofs.lemmas.Bool.{false≢true, and_parts, or_cases, eqb-true, eq-eqb, ne_eqb, leb-true}
 use Rattle.std.proofs.lemmas.Bool.Decides.{nat_tests}
 use Rattle.text_lexer.specs.declared.lex_err.Fault.{Fault}
@@ -181,6 +182,34 @@ pub literal_from-character : (at count : ℕ) (text : List ℕ) (len : ℕ) → 
 literal_from-character at count [] len quote read some = absurd (cc)
 literal_from-character at count (b ∷ rest) len quote read some =
     rw (quote, read) (literal_from-drop (len - 1) (at + len) (count + 1) rest ∙ ap (λ z. literal_from 0 (at + len) (count + 1) z) (drop-pred len b rest some))
+
+literal_from-raw : (at count : ℕ) (text : List ℕ) → literal_from 0 (at + prefix_len is_raw text) (count + prefix_len is_raw text) (drop (prefix_len is_raw text) text) ≡ literal_from 0 at count text
+literal_from-raw at count [] =
+    let end : at + 0 ≡ at = omega arith in
+    let same : count + 0 ≡ count = omega arith in
+    ap₂ (λ i n. literal_from 0 i n []) end same
+literal_from-raw at count (b ∷ rest) = go (is_raw b) refl (literal_from-raw (at + 1) (count + 1) rest)
+  where
+    n : ℕ
+    n = prefix_len is_raw rest
+
+    go : (t : Bool) → is_raw b ≡ t → literal_from 0 (at + 1 + n) (count + 1 + n) (drop n rest) ≡ literal_from 0 (at + 1) (count + 1) rest → literal_from 0 (at + cond t (1 + n) 0) (count + cond t (1 + n) 0) (drop (cond t (1 + n) 0) (b ∷ rest)) ≡ literal_from 0 at count (b ∷ rest)
+    go true h next =
+        let read = read_raw at b rest h in
+        let step = literal_from-character at count (b ∷ rest) 1 read.no_quote read.read read.positive in
+        let end : at + (1 + n) ≡ at + 1 + n = omega arith in
+        let same : count + (1 + n) ≡ count + 1 + n = omega arith in
+        let one : 1 + n ≡ suc n = omega arith in
+        let left : drop (1 + n) (b ∷ rest) ≡ drop n rest = ap (λ k. drop k (b ∷ rest)) one in
+        (λ i. literal_from 0 (end i) (same i) (left i)) ∙ next ∙ sym step
+    go false h next =
+        let end : at + 0 ≡ at = omega arith in
+        let same : count + 0 ≡ count = omega arith in
+        ap₂ (λ i k. literal_from 0 i k (b ∷ rest)) end same
+
+-- the reader goes on after the bytes at the front that stand for themselves
+pub literal_from-after_raw : (at count raw to counted : ℕ) (text : List ℕ) → raw ≡ prefix_len is_raw text → to ≡ at + raw → counted ≡ count + raw → literal_from 0 to counted (drop raw text) ≡ literal_from 0 at count text
+literal_from-after_raw at count raw to counted text is end same = rw (end, same, is) (literal_from-raw at count text)
 
 -- the reader goes on after what stands for some bytes
 pub literal_goes_on : (value : List ℕ) (at count : ℕ) (inside after : List ℕ) → Writes inside value → literal_from 0 at count (inside ++ after) ≡ literal_from 0 (at + length inside) (count + length value) after

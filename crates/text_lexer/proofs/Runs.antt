@@ -1,5 +1,5 @@
 -- Runs of bytes that pass a test.
-use Rattle.std.proofs.Common.{◌≡◌, ℕ, zero, suc, ◌+◌, ◌-◌, ◌*◌, ◌<◌, ◌≤◌, Bool, true, List, [], ◌∷◌, length, take, refl, inl, inr, ◌⊎◌, arith, slice_index}
+use Rattle.std.proofs.Common.{◌≡◌, ℕ, zero, suc, ◌+◌, ◌-◌, ◌*◌, ◌<◌, ◌≤◌, Bool, true, List, [], ◌∷◌, length, take, drop, refl, inl, inr, ◌⊎◌, arith, slice_index}
 use Rattle.std.specs.List.{prefix_len, list_all}
 use Rattle.std.specs.Str.Parse.{digits_value_after}
 use Rattle.std.specs.Char.{digit_value, is_ascii_digit}
@@ -29,6 +29,15 @@ prefix_len-most p bytes n fits passes = go (cases_lt (prefix_len p bytes) n)
         let inside : prefix_len p bytes < length (take n bytes) = omega (arith, length-take-le n bytes fits) in
         let here = AllPass-from_list_all p (take n bytes) passes (prefix_len p bytes) 0 inside in
         absurd (both_ways _ stops (rw get_or-take at here))
+
+-- bytes at the front that pass are counted first
+pub prefix_len-past : (p : ℕ → Bool) (n : ℕ) (bytes : List ℕ) → n ≤ length bytes → list_all p (take n bytes) ≡ true → n + prefix_len p (drop n bytes) ≡ prefix_len p bytes
+prefix_len-past p zero bytes fits passes = omega arith
+prefix_len-past p (suc n) [] fits passes = absurd (omega arith)
+prefix_len-past p (suc n) (b ∷ rest) fits passes =
+    let parts = and_parts (p b) (list_all p (take n rest)) passes in
+    let more = prefix_len-past p n rest (omega arith) parts.1 in
+    rw parts.0 (omega (arith, more))
 
 -- digits that follow others write no less
 pub digits_value_after-least : (n : ℕ) (digits : List ℕ) → n ≤ digits_value_after 10 n digits

@@ -4,11 +4,12 @@ ghost use Rattle.text_lexer.specs.Front.{literal_front};
 ghost use Rattle.text_lexer.specs.LiteralEnd.{IsCharacterAt, character_front, closed, ends_line};
 ghost use Rattle.text_lexer.specs.LiteralEnd.{escape_len, is_hex_pair, literal_from};
 ghost use Rattle.text_lexer.specs.Lexeme.{IsLexeme};
-ghost use Rattle.text_lexer.specs.Literal.{IsLiteral, WritesByte, escaped};
+ghost use Rattle.text_lexer.specs.Literal.{IsLiteral, WritesByte, escaped, is_raw};
 ghost use Rattle.text_lexer.specs.Token.{IsIn, lexeme_of};
 ghost use Rattle.std.specs.Char.{digit_value, is_ascii_digit};
 ghost use Rattle.std.specs.Int.{is_in_range};
-ghost use Rattle.std.specs.Prelude.{IfErr, IfOk, IsTrue, List, Some, is_some, length, take, ℕ, ◌+◌};
+ghost use Rattle.std.specs.List.{list_all, prefix_len};
+ghost use Rattle.std.specs.Prelude.{IfErr, IfOk, IsTrue, List, Some, drop, is_some, length, take, ℕ, ◌+◌};
 ghost use Rattle.std.specs.Prelude.{◌<◌, ◌^◌, ◌||◌, ◌≡◌, ◌≤◌};
 ghost use Rattle.std.specs.Str.{IsUtf8};
 
@@ -17,6 +18,9 @@ use crate::lex_err::{Cause, Fault};
 use crate::limits::MOST_TEXT_BYTES;
 use crate::token::{Token, TokenKind, bytes_of};
 use std::alloc::{AllocError, Global};
+
+/// How many bytes are looked at together.
+const BLOCK: usize = 16;
 
 /// Whether the byte may follow a backslash with no more.
 fn is_escape_letter(byte: u8) -> bool
@@ -71,6 +75,49 @@ fn character_len(text: &[u8], at: usize) -> Result<usize, Fault>
     }
 }
 
+/// Whether the byte stands for itself in a literal. Nothing branches here and where a block is
+/// looked at, so that it can become vector code.
+fn is_raw(byte: u8) -> bool
+    ensures { result ≡ is_raw byte }
+{
+    !((byte < 32) | (byte == 127) | (byte == b'"') | (byte == b'\\'))
+}
+
+/// Whether each byte of a block stands for itself.
+fn are_raw(bytes: &[u8]) -> bool
+    ensures { result ≡ list_all is_raw bytes.now }
+{
+    let mut raw = true;
+    for byte in bytes {
+        raw = raw & is_raw(*byte);
+    }
+    raw
+}
+
+/// How many bytes at the front are in blocks that stand for themselves.
+fn raw_blocks(text: &[u8]) -> usize
+    ensures ahead { result + prefix_len is_raw (drop result text.now) ≡ prefix_len is_raw text.now }
+    ensures within { result ≤ length text.now }
+{
+    let mut end = 0;
+    while BLOCK <= text.len() - end && are_raw(&text[end..end + BLOCK]) {
+        end += BLOCK;
+    }
+    end
+}
+
+/// How many bytes at the front stand for themselves.
+fn raw_end(text: &[u8]) -> usize
+    ensures value { result ≡ prefix_len is_raw text.now }
+    ensures within { result ≤ length text.now }
+{
+    let mut end = raw_blocks(text);
+    while end < text.len() && is_raw(text[end]) {
+        end += 1;
+    }
+    end
+}
+
 /// The end of a literal that stands for so many bytes.
 fn closed(end: usize, count: usize) -> Result<usize, Fault>
     ensures value { result ≡ closed end count }
@@ -89,17 +136,19 @@ fn literal_end(text: &[u8]) -> Result<usize, Fault>
     ensures value { result ≡ literal_from 0 1 0 text.now }
     ensures fault { IfErr result (λ fault. fault.at ≤ 1 + length text.now) }
 {
-    let mut rest = text;
-    let mut at = 1;
-    let mut count = 0;
+    let raw = raw_end(text);
+    let mut rest = &text[raw..];
+    let mut at = 1 + raw;
+    let mut count = raw;
     while let [byte, ..] = rest {
         if *byte == b'"' {
             return closed(at + 1, count);
         }
         let len = character_len(rest, at)?;
-        rest = &rest[len..];
-        at += len;
-        count += 1;
+        let raw = raw_end(&rest[len..]);
+        rest = &rest[len + raw..];
+        at += len + raw;
+        count += 1 + raw;
     }
     Err(Fault::new(Cause::Unfinished, 0))
 }
