@@ -1,6 +1,6 @@
 -- What is written in order: the names are those of the fields at their places, and ids that rise are a set as they stand.
-use Rattle.std.proofs.Common.{◌≡◌, ◌∙◌, sym, ℕ, ◌+◌, ◌<◌, ◌≤◌, Bool, true, false, ◌||◌, cond, List, [], ◌∷◌, ◌++◌, map, refl, ap, subst, arith, append_assoc}
-use Rattle.std.specs.Prelude.{Option, Some, None, Result, IfOk, ◌==◌, nat_lt, if◌then◌else◌}
+use Rattle.std.proofs.Common.{◌≡◌, ◌∙◌, sym, ℕ, zero, suc, ◌+◌, ◌<◌, ◌≤◌, Bool, true, false, ◌||◌, cond, List, [], ◌∷◌, ◌++◌, map, refl, ap, subst, arith, append_assoc}
+use Rattle.std.specs.Prelude.{Option, Some, None, Result, IfOk, ◌==◌, nat_lt, if◌then◌else◌, slice_get}
 use Rattle.std.specs.Option.{option_or}
 use Rattle.std.specs.List.{AllByRecursion, IsDistinct, find, fold, list_any}
 use Rattle.std.specs.Str.{bytes_eq}
@@ -9,17 +9,16 @@ use Rattle.std.proofs.lemmas.List.{append-nil}
 use Rattle.std.proofs.lemmas.Slice.Eq.{bytes_eq-Decides}
 use Rattle.type_schema.specs.Schema.{FieldInfo, ModelInfo, Schema}
 use Rattle.type_schema.specs.Proper.{AreProperFields, IsProper}
-use Rattle.data_meaning.specs.Database.{Database, Slot}
+use Rattle.data_meaning.specs.Database.{Slot}
 use Rattle.data_tree.specs.declared.literals.WrittenId.{WrittenId}
 use Rattle.data_tree.specs.declared.literals.Lit.{Lit}
 use Rattle.data_tree.specs.declared.tables.FieldLit.{FieldLit}
 use Rattle.data_judge.specs.declared.fault.Fault.{Fault}
 use Rattle.data_judge.specs.declared.fault.Fault.TheVariants as fault
 use Rattle.data_judge.specs.Faults.{has, item_fault, items_fault, field_named, field_fault, model_named, are_given, row_fault, value_fault}
-use Rattle.data_judge.specs.First.{first_behind, first_given, pushed}
+use Rattle.data_judge.specs.First.{first_behind, pushed}
 use Rattle.data_judge.specs.InOrder.{AreApart, AreApartEach, IdsRiseFrom, are_in_order, first_paired, numbers_in, slots_paired}
 use Rattle.data_judge.specs.Meaning.{id_in, ids_of, slot_of, value_of, with_item, with_number}
-use Rattle.data_judge.specs.References.{field_lost, value_lost}
 use Rattle.data_judge.proofs.Sets.{all-with}
 use Rattle.data_judge.proofs.Standard.{all-found, bytes-same, finds-all}
 use Rattle.data_judge.proofs.Tests.{both, either-false}
@@ -136,17 +135,6 @@ slots-in-order (f ∷ fs) before (w ∷ ws) fresh apart e =
     (ap (λ all. map (slot_of all) fs) (sym (append_assoc before (w ∷ []) ws))
     ∙ slots-in-order fs (before ++ w ∷ []) ws (fresher before w f fs next.name apart.0 fresh.1) apart.1 next.rest)
 
-lost-in-order : (d : Database) (fields fs : List FieldInfo) (ws : List FieldLit) → AreNamed fields fs → are_in_order fs ws ≡ true
-    → first_given (field_lost d fields) ws ≡ first_paired (λ f w. value_lost d f.ty w.value) fs ws
-lost-in-order d fields [] [] are e = refl
-lost-in-order d fields [] (w ∷ ws) are e = no-field w ws e
-lost-in-order d fields (f ∷ fs) [] are e = no-value f fs e
-lost-in-order d fields (f ∷ fs) (w ∷ ws) are e =
-    let next = is-next f fs w ws e in
-    let found : field_named fields w.name.name ≡ Some f = ap (field_named fields) next.name ∙ are.0 in
-    let one : field_lost d fields w ≡ value_lost d f.ty w.value = rw found refl in
-    ap (λ o. option_or o (first_given (field_lost d fields) ws)) one ∙ ap (λ o. option_or (value_lost d f.ty w.value) o) (lost-in-order d fields fs ws are.1 next.rest)
-
 module _ (fields : List FieldInfo) (ws : List FieldLit) (apart : AreApart fields) (e : are_in_order fields ws ≡ true) where
   all-named : AreNamed fields fields
   all-named = finds-all bytes_eq bytes-same (λ (f : FieldInfo). f.name) fields apart
@@ -160,8 +148,18 @@ module _ (fields : List FieldInfo) (ws : List FieldLit) (apart : AreApart fields
   pub written-in-order : slots_paired fields ws ≡ map (slot_of ws) fields
   written-in-order = sym (slots-in-order fields [] ws (fresh-at-first fields) apart e)
 
-  pub ids-in-order : (d : Database) → first_paired (λ f w. value_lost d f.ty w.value) fields ws ≡ first_given (field_lost d fields) ws
-  ids-in-order d = sym (lost-in-order d fields fields ws all-named e)
+all-at : {A : Type 0} (P : A → Type 0) (xs : List A) (i : ℕ) (x : A) → AllByRecursion P xs → slice_get xs i ≡ Some x → P x
+all-at P [] i x all e = cc
+all-at P (y ∷ xs) zero x all e = let one : y ≡ x = cc in subst P one all.0
+all-at P (y ∷ xs) (suc i) x all e = all-at P xs i x all.1 e
+
+-- where no two fields have one name, one with the name is the one of the name
+pub named-at : (fields : List FieldInfo) (i : ℕ) (f : FieldInfo) (name : List ℕ) → AreApart fields → slice_get fields i ≡ Some f
+    → bytes_eq f.name name ≡ true → field_named fields name ≡ Some f
+named-at fields i f name apart here passes =
+    let is : f.name ≡ name = (bytes_eq-Decides f.name name).0 passes in
+    let all = finds-all bytes_eq bytes-same (λ (g : FieldInfo). g.name) fields apart in
+    ap (field_named fields) (sym is) ∙ all-at (λ (g : FieldInfo). field_named fields g.name ≡ Some g) fields i f all here
 
 fields-apart : (next : ℕ) (models : List ModelInfo) → AllByRecursion (AreProperFields next) models → AreApartEach models
 fields-apart next [] all = tt

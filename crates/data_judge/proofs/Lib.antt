@@ -6,6 +6,7 @@ pub mod First
 pub mod Found
 pub mod Held
 pub mod InOrder
+pub mod Lost
 pub mod One
 pub mod Order
 pub mod Sets

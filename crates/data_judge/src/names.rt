@@ -6,6 +6,7 @@ ghost use Rattle.std.specs.Option.{option_map};
 ghost use Rattle.std.specs.Str.{bytes_eq};
 ghost use Rattle.data_judge.specs.Faults as spec;
 ghost use Rattle.data_judge.specs.InOrder as order;
+ghost use Rattle.data_judge.specs.InOrder.{AreApart};
 ghost use Rattle.type_schema.specs.SchemaViews.{field_info_of, model_info_of};
 
 use data_tree::{FieldLit, TableLit};
@@ -31,6 +32,23 @@ pub(crate) fn field_named<'s>(fields: &'s [FieldInfo], name: &[u8]) -> Option<&'
         ≡ spec.field_named (map field_info_of fields.now) name.now }
 {
     field_among(fields, name)
+}
+
+/// The field of a model that the name names, where no two have one name. It is looked for at this
+/// place first.
+pub(crate) fn field_near<'s>(
+    fields: &'s [FieldInfo],
+    place: usize,
+    name: &[u8],
+) -> Option<&'s FieldInfo>
+    requires { AreApart (map field_info_of fields.now) }
+    ensures { option_map field_info_of (option_copied result)
+        ≡ spec.field_named (map field_info_of fields.now) name.now }
+{
+    match fields.get(place) {
+        Some(info) if same_name(info.name.bytes(), name) => Some(info),
+        _ => field_named(fields, name),
+    }
 }
 
 /// The first model of that name.

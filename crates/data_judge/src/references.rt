@@ -1,15 +1,16 @@
 //! The first id in a value that names no record.
 
-ghost use Rattle.std.specs.Prelude.{◌≡◌, map};
+ghost use Rattle.std.specs.Prelude.{◌≡◌, IsFalse, None, map, ℕ};
 ghost use Rattle.data_judge.specs.First.{first_given};
-ghost use Rattle.data_judge.specs.InOrder.{AreApart, AreApartEach, first_paired};
+ghost use Rattle.data_judge.specs.InOrder.{AreApart, AreApartEach};
 ghost use Rattle.data_judge.specs.References as spec;
 ghost use Rattle.data_tree.specs.declared.literals.Lit.{out-Lit};
+ghost use Rattle.data_meaning.specs.Database.{Database};
 ghost use Rattle.data_records.specs.Shape as shape;
 ghost use Rattle.type_schema.specs.SchemaViews.{field_info_of, model_info_of};
 
 use crate::literals::id_in;
-use crate::names::{are_in_order, field_named, model_named};
+use crate::names::{field_near, model_named};
 use data_records::Database;
 use data_tree::{FieldLit, Lit, RecordLit, TableLit, WrittenId};
 use type_schema::{FieldInfo, ModelInfo, ModelNo, TBase, TTy};
@@ -86,33 +87,30 @@ fn value_lost(database: &Database, t: TTy, l: &Lit) -> Option<u32>
     }
 }
 
-/// The first such id in a field of a record.
-fn field_lost(database: &Database, fields: &[FieldInfo], w: &FieldLit) -> Option<u32>
-    ensures { result ≡ spec.field_lost database.now (map field_info_of fields.now) w.now }
+/// Whether an id may stand in what is written.
+fn holds_ids(l: &Lit) -> bool
+    ensures { IsFalse result → (database : Database) (m : ℕ) →
+        spec.layer_lost database m (out-Lit l.now) ≡ None }
 {
-    match field_named(fields, w.name.name.bytes()) {
-        Some(info) => value_lost(database, info.ty, &w.value),
-        None => None,
+    match l {
+        Lit::Id(_, _) | Lit::SomeLit(_, _) | Lit::List(_, _) => true,
+        Lit::Flag(_, _) | Lit::Num(_, _) | Lit::Str(_, _) | Lit::SelfId(_) | Lit::NoneLit(_) =>
+            false,
     }
 }
 
-/// The first such id in what is written for the fields in their order.
-fn values_lost(database: &Database, fields: &[FieldInfo], ws: &[FieldLit]) -> Option<u32>
-    ensures { result ≡ first_paired (λ f w. spec.value_lost database.now f.ty w.value)
-        (map field_info_of fields.now) ws.now }
+/// The first such id in a field of a record, which stands at this place.
+#[tactic(auto, using(crate::proofs::Lost::without_ids))]
+fn field_lost(database: &Database, fields: &[FieldInfo], place: usize, w: &FieldLit) -> Option<u32>
+    requires { AreApart (map field_info_of fields.now) }
+    ensures { result ≡ spec.field_lost database.now (map field_info_of fields.now) w.now }
 {
-    match fields {
-        [] => None,
-        [info, fields @ ..] => match ws {
-            [] => None,
-            [w, ws @ ..] => {
-                let at = value_lost(database, info.ty, &w.value);
-                if at.is_some() {
-                    return at;
-                }
-                values_lost(database, fields, ws)
-            }
-        },
+    if !holds_ids(&w.value) {
+        return None;
+    }
+    match field_near(fields, place, w.name.name.bytes()) {
+        Some(info) => value_lost(database, info.ty, &w.value),
+        None => None,
     }
 }
 
@@ -121,12 +119,8 @@ fn row_lost(database: &Database, fields: &[FieldInfo], row: &RecordLit) -> Optio
     requires { AreApart (map field_info_of fields.now) }
     ensures { result ≡ spec.row_lost database.now (map field_info_of fields.now) row.now }
 {
-    let ws = row.fields.as_slice();
-    if are_in_order(fields, ws) {
-        return values_lost(database, fields, ws);
-    }
-    for w in ws {
-        let at = field_lost(database, fields, w);
+    for (place, w) in row.fields.as_slice().iter().enumerate() {
+        let at = field_lost(database, fields, place, w);
         if at.is_some() {
             return at;
         }

@@ -4,7 +4,7 @@ use Rattle.data_judge.specs.References as spec
 use Rattle.type_schema.specs.SchemaViews.{field_info_of}
 use Rattle.data_judge.proofs.references.row_lost.Given as goal
 
-abbrev pub invariant-loop-w : goal.invariant-loop-w
-invariant-loop-w l =
+abbrev pub invariant-loop-place : goal.invariant-loop-place
+invariant-loop-place l =
     first_given (spec.field_lost l.database (map field_info_of l.fields)) l.row.fields
-    ≡ first_given (spec.field_lost l.database (map field_info_of l.fields)) (drop l.w-index l.row.fields)
+    ≡ first_given (spec.field_lost l.database (map field_info_of l.fields)) (drop l.place l.row.fields)
