@@ -1,5 +1,5 @@
 -- The first element that passes a test: of a list that was made from another, and of one whose keys rise.
-use Rattle.std.proofs.Common.{◌≡◌, ℕ, zero, suc, ◌<◌, ◌≤◌, Bool, true, false, List, [], ◌∷◌, refl, ap, ◌∙◌, cond, arith, get_or, length, map}
+use Rattle.std.proofs.Common.{◌≡◌, ℕ, zero, suc, ◌<◌, ◌≤◌, Bool, true, false, List, [], ◌∷◌, refl, ap, sym, ◌∙◌, cond, arith, get_or, length, map}
 use Rattle.std.specs.Prelude.{Option, Some, None, ◌==◌, slice_get, Result, Ok, Err, ◌⊎◌}
 use Rattle.std.proofs.Math.Logic.{inl, inr, ⊎_elim}
 use Rattle.std.specs.List.{find}
@@ -11,10 +11,11 @@ use Rattle.std.specs.Cmp.{unsigned_ties}
 use Rattle.std.specs.declared.cmp.Ordering.{Ordering}
 use Rattle.std.specs.declared.cmp.Ordering.TheVariants.{Less, Greater}
 use Rattle.data_records.specs.Rising.{IsFirstAt}
-use Rattle.std.proofs.lemmas.Bool.{cases_order, eqb-true, ne_eqb}
+use Rattle.std.proofs.lemmas.Bool.{cases_order, eqb-true, eq-eqb, ne_eqb}
 use Rattle.std.proofs.lemmas.Bool.Decides.{nat_tests}
 use Rattle.std.proofs.lemmas.List.{get_or-map, length-map}
 use Rattle.std.proofs.lemmas.List.Kept.{AllPairs-from_increasing}
+use Rattle.std.proofs.lemmas.Option.{slice_get-get_or, slice_get_within}
 
 cond-some : {X Y : Type 0} (f : X → Y) (b : Bool) (x : X) (o : Option X) → cond b (Some (f x)) (option_map f o) ≡ option_map f (cond b (Some x) o)
 cond-some f true x o = refl
@@ -68,6 +69,16 @@ first_by {X} key id xs i up below h =
           let there : key (get_or xs i d) ≡ id = eqb-true _ _ (it d) in
           omega (arith, rises key xs up k i d less below))),
     )
+
+-- the element at the place has the key
+pub found_by : {X : Type 0} (key : X → ℕ) (id : ℕ) (xs : List X) (i : ℕ) (x : X) → IsStrictlyIncreasing (map key xs) → slice_get xs i ≡ Some x
+    → key x ≡ id → find (λ y. key y == id) xs ≡ Some x
+found_by {X} key id xs i x up got has =
+    let below = slice_get_within xs i x got in
+    let here : (d : X) → get_or xs i d ≡ x = λ d. let both : Some (get_or xs i d) ≡ Some x = sym (slice_get-get_or xs i d below) ∙ got in cc in
+    let it : (d : X) → key (get_or xs i d) ≡ id = λ d. ap key (here d) ∙ has in
+    find-first (λ y. key y == id) xs i below (λ d. eq-eqb _ _ (it d))
+    (λ k d less. ne_eqb (key (get_or xs k d)) id (λ e. omega (arith, it d, e, rises key xs up k i d less below))) ∙ got
 
 pub searched_by : {X : Type 0} (key : X → ℕ) (id : ℕ) (xs : List X) (r : Result ℕ ℕ) → IsStrictlyIncreasing (map key xs) → IsSearchInRange r (length xs)
     → IsBinarySearchResult (λ y. nat_cmp (key y) id) xs r

@@ -1,7 +1,7 @@
 //! Tables.
 
 ghost use Rattle.std.specs.Prelude.{◌≡◌, ◌==◌, ◌<◌, ◌^◌, length, map, option_copied};
-ghost use Rattle.std.specs.Prelude.{MatchOption, IfOk, OnOk, OnErr};
+ghost use Rattle.std.specs.Prelude.{MatchOption, IfOk, IfSome, OnOk, OnErr, Some};
 ghost use Rattle.std.specs.List.{find};
 ghost use Rattle.std.specs.List.Sorted.{IsStrictlyIncreasing};
 ghost use Rattle.data_records.specs.Inserted.{with_record};
@@ -26,14 +26,36 @@ pub struct Table {
     pub records: Vec<Record>,
 }
 
-/// The record with the id among records by rising id.
-pub(crate) fn record_in(records: &[Record], id: u64) -> Option<&Record>
+/// The record with the id, if it stands where it does when no id before it was left out.
+fn record_at(records: &[Record], id: u64) -> Option<&Record>
+    requires { IsStrictlyIncreasing (map (λ r. r.id) records.now) }
+    ensures { IfSome result (λ it. find (λ r. r.id == id) records.now ≡ Some it.now) }
+{
+    match records.get(id.checked_sub(1)? as usize) {
+        Some(record) if record.id == id => Some(record),
+        _ => None,
+    }
+}
+
+/// The record with the id, sought among all.
+fn record_sought(records: &[Record], id: u64) -> Option<&Record>
     requires { IsStrictlyIncreasing (map (λ r. r.id) records.now) }
     ensures { option_copied result ≡ find (λ r. r.id == id) records.now }
 {
     match records.binary_search_by_key(&id, |record| record.id) {
         Ok(at) => Some(&records[at]),
         Err(_) => None,
+    }
+}
+
+/// The record with the id among records by rising id.
+pub(crate) fn record_in(records: &[Record], id: u64) -> Option<&Record>
+    requires { IsStrictlyIncreasing (map (λ r. r.id) records.now) }
+    ensures { option_copied result ≡ find (λ r. r.id == id) records.now }
+{
+    match record_at(records, id) {
+        Some(record) => Some(record),
+        None => record_sought(records, id),
     }
 }
 

@@ -3,7 +3,7 @@ use Rattle.std.specs.Prelude.{Ok, Err, Some}
 use Rattle.std.proofs.lemmas.Option.{slice_get-get_or}
 use Rattle.std.proofs.lemmas.List.Sorted.{answers_always}
 use Rattle.data_records.proofs.Searches.{searched_by}
-use Rattle.data_records.proofs.table.record_in.Goals as goal
+use Rattle.data_records.proofs.table.record_sought.Goals as goal
 
 -- the closure gives a record's id
 pub returns-in-Ok : goal.returns-in-Ok
