@@ -27,13 +27,25 @@ fn write_tables(
     Ok(())
 }
 
-/// The text of a database over the schema: models, records and fields in the order of the schema,
-/// by rising id, each table with its next id.
+/// Writes a database over the schema: models, records and fields in the order of the schema, by
+/// rising id, each table with its next id.
+pub fn write_database(
+    out: &mut Printer,
+    alloc: Global,
+    database: &Database,
+    s: &Schema,
+) -> Result<(), AllocError>
+    ensures { OnOk result (out.new ≡ out.old ++ database_text (schema_of s.now) database.now) }
+{
+    write_tables(out, alloc, s.models.as_slice(), database)
+}
+
+/// The text of a database over the schema.
 pub fn print_database(alloc: Global, database: &Database, s: &Schema) -> Result<Vec<u8>, AllocError>
     ensures { IfOk result (λ text. text.items
         ≡ database_text (schema_of s.now) database.now) }
 {
     let mut out = Printer::new(alloc);
-    write_tables(&mut out, alloc, s.models.as_slice(), database)?;
+    write_database(&mut out, alloc, database, s)?;
     Ok(out.into_bytes())
 }

@@ -4,7 +4,7 @@
 //! |---|---|
 //! | `values` | the texts of ids and values |
 //! | `tables` | the texts of records and tables |
-//! | `databases` | `print_database` |
+//! | `databases` | `write_database`, `print_database` |
 //! | `laws` | a law: the text tells the database |
 //!
 //! `specs/Texts.antt` says what each text is.
@@ -15,7 +15,7 @@ mod laws;
 mod tables;
 mod values;
 
-pub use databases::print_database;
+pub use databases::{print_database, write_database};
 pub use laws::texts_tell_databases;
 pub use tables::write_table;
 pub use values::{write_decimal, write_id};

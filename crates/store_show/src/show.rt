@@ -2,13 +2,11 @@
 
 ghost use Rattle.std.specs.Prelude.{◌≡◌, ◌++◌, IfOk, OnOk};
 ghost use Rattle.type_schema.specs.SchemaViews.{schema_of};
-ghost use Rattle.data_print.specs.Texts.{database_text};
 ghost use Rattle.store_keeper.specs.Stored.{stored_of};
 ghost use Rattle.store_show.specs.Texts.{schema_text, show_text, version_text};
 
 use crate::notes::write_notes;
-use data_print::{print_database, write_decimal};
-use data_records::Database;
+use data_print::{write_database, write_decimal};
 use std::alloc::{AllocError, Global};
 use store_keeper::Stored;
 use text_print::Printer;
@@ -34,20 +32,6 @@ fn write_schema(out: &mut Printer, alloc: Global, s: &Schema) -> Result<(), Allo
     Ok(())
 }
 
-/// Writes the database.
-fn write_base(
-    out: &mut Printer,
-    alloc: Global,
-    s: &Schema,
-    base: &Database,
-) -> Result<(), AllocError>
-    ensures { OnOk result (out.new ≡ out.old ++ database_text (schema_of s.now) base.now) }
-{
-    let text = print_database(alloc, base, s)?;
-    out.put(text.as_slice())?;
-    Ok(())
-}
-
 /// The text of what is stored: the version, the specification in its canonical spelling, the
 /// database with its records by rising id, and a line for each note.
 pub fn print_stored(alloc: Global, stored: &Stored) -> Result<Vec<u8>, AllocError>
@@ -56,7 +40,7 @@ pub fn print_stored(alloc: Global, stored: &Stored) -> Result<Vec<u8>, AllocErro
     let mut out = Printer::new(alloc);
     write_version(&mut out, alloc, stored.version)?;
     write_schema(&mut out, alloc, &stored.schema)?;
-    write_base(&mut out, alloc, &stored.schema, &stored.base)?;
+    write_database(&mut out, alloc, &stored.base, &stored.schema)?;
     write_notes(&mut out, alloc, stored.notes.as_slice())?;
     Ok(out.into_bytes())
 }
