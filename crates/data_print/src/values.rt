@@ -8,15 +8,16 @@ ghost use Rattle.data_print.specs.Texts.{id_text, value_text};
 ghost use Rattle.data_records.specs.Views.{value_data};
 
 use data_records::Value;
+use itoa::Buffer;
 use std::alloc::{AllocError, Global};
 use text_print::Printer;
 
 /// Writes a number.
-pub fn write_decimal(out: &mut Printer, alloc: Global, number: u64) -> Result<(), AllocError>
+pub fn write_decimal(out: &mut Printer, _alloc: Global, number: u64) -> Result<(), AllocError>
     ensures { OnOk result (out.new ≡ out.old ++ decimal number) }
 {
-    let digits = number.to_string(alloc)?;
-    out.put(digits.as_bytes())
+    let mut digits = Buffer::new();
+    out.put(digits.format(number).as_bytes())
 }
 
 /// Writes the id of a record.

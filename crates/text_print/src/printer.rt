@@ -6,6 +6,7 @@ ghost use Rattle.std.specs.List.{flat_map, list_all};
 ghost use Rattle.text_print.specs.Marks.{escape, is_plain, mark_bytes, number, quoted};
 ghost use Rattle.text_print.specs.Marks.{text_of_marks};
 
+use itoa::Buffer;
 use std::alloc::{AllocError, Global};
 use std::marker::Model;
 
@@ -44,9 +45,8 @@ impl Printer {
     pub fn number(&mut self, value: i64) -> Result<(), AllocError>
         ensures { OnOk result (self.new ≡ self.old ++ text_of_marks (number value)) }
     {
-        let alloc = *self.bytes.allocator();
-        let digits = value.to_string(alloc)?;
-        self.put(digits.as_bytes())
+        let mut digits = Buffer::new();
+        self.put(digits.format(value).as_bytes())
     }
 
     /// Writes a text between quotes.
@@ -106,18 +106,23 @@ impl Printer {
     }
 }
 
-/// Whether a byte is written as itself between quotes.
+/// Whether a byte is written as itself between quotes. Nothing branches here and where a text is
+/// looked at, so that it can become vector code.
 fn is_plain(byte: u8) -> bool
     ensures { result ≡ is_plain byte }
 {
-    !(byte < 32 || byte == b'"' || byte == b'\\' || byte == 127)
+    !((byte < 32) | (byte == b'"') | (byte == b'\\') | (byte == 127))
 }
 
 /// Whether each byte is written as itself between quotes.
 fn are_plain(bytes: &[u8]) -> bool
     ensures { result ≡ list_all is_plain bytes.now }
 {
-    bytes.iter().all(|byte| is_plain(*byte))
+    let mut plain = true;
+    for byte in bytes {
+        plain = plain & is_plain(*byte);
+    }
+    plain
 }
 
 /// The hexadecimal digit of this value.
