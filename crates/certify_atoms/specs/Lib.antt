@@ -1,0 +1,5 @@
+pub mod Atoms
+pub mod Columns
+pub mod Orders
+pub mod Public
+pub mod Texts
