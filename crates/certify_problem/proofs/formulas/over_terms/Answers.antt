@@ -1,0 +1,19 @@
+use Rattle.std.proofs.Common.{inl}
+use Rattle.form_formula.specs.Nodes.{formula_of}
+use Rattle.form_tables.proofs.TermsFormed.{terms_herbrand}
+use Rattle.ground_terms.specs.TermLists.{terms_in}
+use Rattle.certify_problem.specs.Problems.{problem_in}
+use Rattle.certify_problem.proofs.FormulaLaws.{problem_for}
+use Rattle.certify_problem.proofs.Lists.{ok_too}
+use Rattle.certify_problem.proofs.formulas.over_terms.Goals as goal
+
+pub clauses_over-requires-clause-formed : goal.clauses_over-requires-clause-formed
+clauses_over-requires-clause-formed c = terms_herbrand c.args.signature.now (formula_of c.args.arena.now c.args.id) c.requires.over (terms_in c.args.terms) c.requires.listed
+
+pub returns : goal.returns
+returns c =
+    ok_too c.clauses_over.result _ _
+    (λ made h f same.
+    problem_for c.args.signature.now f (formula_of c.args.arena.now c.args.id) (terms_in c.args.terms) (problem_in made) c.requires.over c.requires.normal same
+    (inl (c.requires.stratified, c.requires.within, c.requires.listed)) h)
+    c.clauses_over.ensures
