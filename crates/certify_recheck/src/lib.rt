@@ -7,12 +7,14 @@
 //! - `theories`: whether what a path says has a model.
 //! - `walk`: one line of a tree after another, along a path.
 //! - `checking`: [`recheck`], one obligation's part of a certificate.
+//! - `frame`: [`recheck_heading`] and [`recheck_ending`], the lines around the parts.
 //! - `spot`, `fault`: [`Spot`] and [`RecheckErr`].
 //! - `laws`: the lines that are due behind a part are those of a lawful tree.
 #![tactic(auto)]
 
 mod checking;
 mod fault;
+mod frame;
 mod laws;
 mod line;
 mod number;
@@ -23,6 +25,7 @@ mod walk;
 
 pub use checking::recheck;
 pub use fault::RecheckErr;
+pub use frame::{recheck_ending, recheck_heading};
 pub use laws::{parts_are_lawful_trees, parts_follow_one_another, written_lines_are_read_back};
 pub use line::{Line, read_line};
 pub use spot::Spot;
