@@ -1,0 +1,5 @@
+pub mod Certificates
+pub mod Passed
+pub mod Public
+pub mod Rechecked
+pub mod Sound
