@@ -19,7 +19,8 @@ WORDS = os.path.join(TOP, "docs", "definitions.txt")
 LAYERS = {
     "text": "Texts and trees", "type": "Types", "data": "Databases, and what scripts mean on them", "duty": "Obligations and their formulas",
     "form": "Formulas and terms", "ground": "Formulas over terms", "solve": "Clauses", "decide": "Verdicts on formulas",
-    "check": "Verdicts on scripts", "store": "The store", "certify": "Certificates", "app": "The program",
+    "check": "Verdicts on scripts", "store": "The store", "door": "The door",
+    "certify": "Certificates", "app": "The program",
 }
 PROGRAM = {"link_arena": "solve", "scooter": "app"}
 IMPORT = re.compile(r"^\s*(?:ghost |pub )*use Rattle\.(\w+)\.specs\.([\w.]+?)(?:\.\{([^}]*)\}| as (\w+))?;?\s*$")

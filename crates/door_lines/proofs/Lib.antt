@@ -1,0 +1,5 @@
+pub mod Ranges
+pub mod RestLemmas
+pub mod Answered
+pub mod Searched
+pub mod TurnLemmas
