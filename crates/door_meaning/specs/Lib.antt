@@ -1,0 +1,10 @@
+pub mod Conditions
+pub mod Migrates
+pub mod Names
+pub mod Orders
+pub mod Public
+pub mod Records
+pub mod Replies
+pub mod Sessions
+pub mod State
+pub mod Step
