@@ -79,9 +79,6 @@ pub(crate) fn picks(
     let mut at = id;
     let mut number = 0;
     'down: while let Node::Exists(_, body) = arena.node(at) {
-        if number == u32::MAX {
-            return Err(AllocError);
-        }
         picks.push(pick_of(terms, elements, named, number))?;
         number += 1;
         at = *body;

@@ -86,17 +86,17 @@ fn check_fact(source: Source<'_>, fact: FactNode, value: bool) -> Result<(), All
     if so == value { Ok(()) } else { Err(AllocError) }
 }
 
-/// The value of the fact at a place.
-fn value_of(values: &[bool], k: usize) -> Result<bool, AllocError>
-    ensures { IfOk result (λ value. value ≡ unwrap_or (slice_get values.now k) false) }
+/// The value of the fact at a place, which is false where there is none.
+fn value_of(values: &[bool], k: usize) -> bool
+    ensures { result ≡ unwrap_or (slice_get values.now k) false }
 {
     match values.get(k) {
-        Some(value) => Ok(*value),
-        None => Err(AllocError),
+        Some(value) => *value,
+        None => false,
     }
 }
 
-/// Checks the fact at a place.
+/// Checks the fact at a place, if there is one.
 fn check_at(
     source: Source<'_>,
     facts: &[FactNode],
@@ -107,10 +107,10 @@ fn check_at(
         source.entry.arena.now source.entry.terms.now source.entry.pairs.now
         source.entry.columns.now p (unwrap_or (slice_get values.now k) false)) }
 {
-    let value = value_of(values, k)?;
+    let value = value_of(values, k);
     match facts.get(k) {
         Some(fact) => check_fact(source, *fact, value),
-        None => Err(AllocError),
+        None => Ok(()),
     }
 }
 
