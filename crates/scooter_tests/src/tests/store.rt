@@ -6,7 +6,7 @@ use std::alloc::{AllocError, Global};
 use std::test::Fail;
 use store_keeper::{Keeper, MemKeeper, SureKeeper};
 
-const STORE_FILES: [File<'static>; 11] = [
+pub const STORE_FILES: [File<'static>; 11] = [
     File {
         name: "n.spec",
         text: b"static Visitor
@@ -80,11 +80,11 @@ User::UpdateFieldPolicy(age, {read: public})",
 ];
 
 /// Words, and what they come to over what the store then holds: the status and the report, or the
-/// front of the report of a leak.
-type Step = (&'static [&'static str], Status, &'static [u8]);
+/// front of the report of a leak or of one that is cut.
+pub type Step = (&'static [&'static str], Status, &'static [u8]);
 
 /// Whether the words come to this over the store, where the fetches and puts of these numbers fail.
-fn comes_to<K: Keeper>(
+pub fn comes_to<K: Keeper>(
     alloc: Global,
     store: &mut K,
     step: Step,
@@ -93,11 +93,17 @@ fn comes_to<K: Keeper>(
     let (words, status, report) = step;
     let ended = run_over_store(alloc, words, &STORE_FILES, store, failing)?;
     let output = ended.output.as_slice();
-    Ok(ended.status == status && output.starts_with(report))
+    let is_front = status == Status::Leak || status == Status::WriteFault;
+    let is_reported = if is_front {
+        output.starts_with(report)
+    } else {
+        output == report
+    };
+    Ok(ended.status == status && is_reported)
 }
 
 /// No fetch and no put fails.
-const SURE: Failing<'static> = Failing {
+pub const SURE: Failing<'static> = Failing {
     fetches: &[],
     puts: &[],
 };
@@ -122,7 +128,7 @@ fn first_wrong_of(alloc: Global, steps: &[Step]) -> Result<Option<usize>, AllocE
     first_wrong(alloc, &mut store, steps)
 }
 
-const SESSION: [Step; 21] = [
+pub const SESSION: [Step; 21] = [
     (&["show"], Status::StoreState, b"store is empty\n"),
     (&["check", "s.scm"], Status::StoreState, b"store is empty\n"),
     (
@@ -284,7 +290,7 @@ fn first_other(
     Ok(None)
 }
 
-const INIT: Step = (&["init", "u.spec"], Status::Done, b"ok version 1\n");
+pub const INIT: Step = (&["init", "u.spec"], Status::Done, b"ok version 1\n");
 
 /// The calls: `init` loads and writes, `apply` loads and writes.
 const STORE_FAULTS: [(Step, u64); 4] = [
