@@ -10,18 +10,13 @@ use text_ast::Txt;
 use text_lexer::TokenKind;
 use text_syntax::Piece;
 
-/// Whether a byte is neither a quote nor a backslash.
-fn is_bare(byte: u8) -> bool
-    ensures { result ≡ is_bare byte }
-{
-    !(byte == b'"' || byte == b'\\')
-}
-
-/// Whether each byte is neither.
+/// Whether each byte is neither a quote nor a backslash.
 fn are_bare(bytes: &[u8]) -> bool
     ensures { result ≡ list_all is_bare bytes.now }
 {
-    bytes.iter().all(|byte| is_bare(*byte))
+    let quoted = bytes.contains(&b'"');
+    let slashed = bytes.contains(&b'\\');
+    !(quoted | slashed)
 }
 
 /// What stands between the quotes of a literal, if no backslash does.
