@@ -52,8 +52,14 @@ pub fn write_rows<S: Alter>(conn: &mut Connection<S>, rows: &str) -> Result<usiz
     )
 }
 
+/// Reads all rows.
+pub fn count_rows<S: Alter>(conn: &mut Connection<S>) -> Result<usize, Error> {
+    let rows = conn.query_all("SELECT model, id, line FROM record ORDER BY model, id", &[])?;
+    Ok(rows.len())
+}
+
 /// Gives the rows of these lines their texts.
-pub fn change_rows<S: Alter>(conn: &mut Connection<S>, rows: &str) -> Result<usize, Error> {
+fn change_each<S: Alter>(conn: &mut Connection<S>, rows: &str) -> Result<usize, Error> {
     write_each(
         conn,
         "UPDATE record SET line = ?3 WHERE model = ?1 AND id = ?2",
@@ -61,8 +67,8 @@ pub fn change_rows<S: Alter>(conn: &mut Connection<S>, rows: &str) -> Result<usi
     )
 }
 
-/// Reads all rows.
-pub fn count_rows<S: Alter>(conn: &mut Connection<S>) -> Result<usize, Error> {
-    let rows = conn.query_all("SELECT model, id, line FROM record ORDER BY model, id", &[])?;
-    Ok(rows.len())
+/// Reads all rows, and gives those of these lines their texts.
+pub fn change_rows<S: Alter>(conn: &mut Connection<S>, rows: &str) -> Result<usize, Error> {
+    let _all = count_rows(conn)?;
+    change_each(conn, rows)
 }
