@@ -6,3 +6,4 @@ pub use Rattle.certify_recheck.specs.Spots.{Spans, Passes, IsBadLine, IsPart, Is
 pub use Rattle.certify_recheck.specs.Laws.{IsLawfulPart, PartsAreLawfulTrees, OneAnswer}
 pub use Rattle.certify_recheck.specs.Following.{IsFollowing, PartsFollow}
 pub use Rattle.certify_recheck.specs.Written.{IsWritten, IsReadBack, WrittenLinesAreReadBack}
+pub use Rattle.certify_recheck.specs.Walking.{TakesAll, IsReady, IsStep}

@@ -18,14 +18,14 @@ use std::alloc::{AllocError, Global};
 
 /// A procedure that was told what the first literals of a path say.
 #[derive(Drop)]
-pub(crate) struct Told<T> {
-    pub(crate) theory: T,
+pub struct Told<T> {
+    pub theory: T,
     /// How many literals, from the outermost on. What they say has a model.
-    pub(crate) count: usize,
+    pub count: usize,
 }
 
 /// The procedures for equality and for differences, with nothing told.
-pub(crate) fn procedures<C: Clauses>(
+pub fn procedures<C: Clauses>(
     alloc: Global,
     c: &C,
 ) -> Result<Told<Pair<Equality, Order>>, AllocError>
@@ -86,7 +86,7 @@ fn untell<C: Clauses, T: Theory<Lit = Atom>>(c: &C, literal: Literal, theory: &m
 }
 
 /// Whether what the literals of a path say has no model.
-pub(crate) fn has_no_model<C: Clauses, T: Theory<Lit = Atom, Model = (Items<u32>, Items<i64>)>>(
+pub fn has_no_model<C: Clauses, T: Theory<Lit = Atom, Model = (Items<u32>, Items<i64>)>>(
     c: &C,
     path: &[Literal],
     told: &mut Told<T>,

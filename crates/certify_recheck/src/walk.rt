@@ -18,7 +18,7 @@ use std::alloc::{AllocError, Global};
 
 /// What a line did to a path.
 #[derive(Clone, Copy)]
-pub(crate) enum Step {
+pub enum Step {
     /// It was not the next line; the path is as before.
     Bad,
     /// It was, and the path is that of the next tree that is due.
@@ -71,8 +71,8 @@ fn close<C: Clauses, T: Theory<Lit = Atom, Model = (Items<u32>, Items<i64>)>>(
     Ok(Step::Done)
 }
 
-/// Goes one line on.
-fn take_line<C: Clauses, T: Theory<Lit = Atom, Model = (Items<u32>, Items<i64>)>>(
+/// Goes one line of a tree on, along its path, where the line is the next one.
+pub fn take_line<C: Clauses, T: Theory<Lit = Atom, Model = (Items<u32>, Items<i64>)>>(
     c: &C,
     path: &mut Path,
     told: &mut Told<T>,
