@@ -1,7 +1,8 @@
 -- Paths that no line can close.
-use Rattle.std.specs.Prelude.{◌≡◌, ℕ, ◌<◌, Bool, List, None, All, IfSome}
+use Rattle.std.specs.Prelude.{◌≡◌, ℕ, ◌<◌, List, None, All, IfSome}
 use Rattle.certify_clauses.specs.Paths.{value_on}
-use Rattle.certify_clauses.specs.Problem.{IsLawfulAssignment, Problem}
+use Rattle.certify_clauses.specs.Problem.{Problem}
+use Rattle.certify_clauses.specs.Refuted.{IsRefuted}
 use Rattle.certify_clauses.specs.Trees.{IsFalseClause, IsWithoutModel}
 use Rattle.certify_clauses.specs.declared.literal.Literal.{Literal}
 
@@ -9,13 +10,9 @@ use Rattle.certify_clauses.specs.declared.literal.Literal.{Literal}
 abbrev pub HasVarsBelow : Problem → Type 0
 HasVarsBelow c = (n : ℕ) → IfSome (c.clause n) (All (λ l. l.var < c.vars))
 
--- no assignment is lawful
-abbrev pub IsWithoutAssignment : Problem → Type 0
-IsWithoutAssignment c = (a : ℕ → Bool) → IsLawfulAssignment c a → ⊥
-
--- and that is not so
+-- that no assignment is lawful is not so
 abbrev pub HasAssignment : Problem → Type 0
-HasAssignment c = IsWithoutAssignment c → ⊥
+HasAssignment c = IsRefuted c → ⊥
 
 -- each variable is on the path, no clause is false on it, and what it says is not without a model
 pub record IsOpen (c : Problem) (path : List Literal) : Type 0 where

@@ -3,7 +3,7 @@
 ghost use Rattle.std.specs.Prelude.{◌≡◌, ◌≤◌, ◌<◌, ℕ, IfOk, MatchOption, length};
 ghost use Rattle.certify_clauses.specs.Listed.{problem_of};
 ghost use Rattle.certify_clauses.specs.Trees.{IsFalseClause};
-ghost use Rattle.certify_making.specs.Making.{problem_in};
+ghost use Rattle.certify_clauses.specs.InMemory.{problem_in};
 
 use certify_clauses::{Clauses, ListedClauses, Path};
 use std::alloc::AllocError;

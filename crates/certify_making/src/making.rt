@@ -4,7 +4,7 @@ ghost use Rattle.std.specs.Prelude.{◌≡◌, [], ◌<◌, IfOk, MatchOption, f
 ghost use Rattle.certify_recheck.specs.Due.{IsNext, due_at, tree};
 ghost use Rattle.certify_recheck.specs.Walking.{IsReady};
 ghost use Rattle.certify_making.specs.Following.{HasGone, IsBegun};
-ghost use Rattle.certify_making.specs.Making.{problem_in};
+ghost use Rattle.certify_clauses.specs.InMemory.{problem_in};
 ghost use Rattle.certify_making.specs.Open.{HasAssignment, HasVarsBelow, IsOpen};
 ghost use Rattle.certify_making.specs.Texts.{IsPartText, IsSmall};
 

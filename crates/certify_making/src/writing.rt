@@ -2,8 +2,9 @@
 
 ghost use Rattle.std.specs.Prelude.{◌<◌, ◌≤◌, IfErr, OnOk};
 ghost use Rattle.certify_making.specs.Faults.{IsFault, IsWrittenPart};
-ghost use Rattle.certify_making.specs.Making.{problem_in};
-ghost use Rattle.certify_making.specs.Open.{HasVarsBelow, IsWithoutAssignment};
+ghost use Rattle.certify_clauses.specs.InMemory.{problem_in};
+ghost use Rattle.certify_clauses.specs.Refuted.{IsRefuted};
+ghost use Rattle.certify_making.specs.Open.{HasVarsBelow};
 
 use crate::fault::CertErr;
 use crate::making::part_text;
@@ -26,7 +27,7 @@ pub fn certify<W: Sink>(
 ) -> Result<(), CertErr>
     requires small { duty < 2000000000 }
     requires below { HasVarsBelow (problem_in c.now) }
-    requires refuted { IsWithoutAssignment (problem_in c.now) }
+    requires refuted { IsRefuted (problem_in c.now) }
     ensures ok { OnOk result (IsWrittenPart (W.told out.old) (W.told out.new)
         (problem_in c.now) duty) }
     ensures err { IfErr result (IsFault W.told W.faults out.old out.new (problem_in c.now) duty) }

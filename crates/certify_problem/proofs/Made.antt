@@ -27,7 +27,8 @@ use Rattle.certify_atoms.specs.Texts.{AllAreTexts, StandOnce}
 use Rattle.certify_atoms.proofs.SideLaws.{atoms_at}
 use Rattle.certify_problem.specs.Listing.{IsPadded}
 use Rattle.certify_problem.specs.Making.{AreMadeOf, IsMadeOf}
-use Rattle.certify_problem.specs.Problems.{IsProblemOf, literal_of, problem_in}
+use Rattle.certify_problem.specs.Problems.{IsProblemOf, literal_of}
+use Rattle.certify_clauses.specs.InMemory.{problem_in}
 use Rattle.certify_problem.proofs.Lists.{flat_own, slice_map}
 
 -- all texts of a list are texts

@@ -9,8 +9,10 @@ use Rattle.form_terms.specs.GroundTerms.{GroundTerm}
 use Rattle.form_terms.specs.Listing.{Lists}
 use Rattle.form_terms.specs.Satisfying.{IsSatisfiable}
 use Rattle.form_terms.specs.Universe.{IsHerbrandTerm, IsShallowTerm}
+use Rattle.certify_clauses.specs.InMemory.{problem_in}
 use Rattle.certify_clauses.specs.Problem.{Problem}
-use Rattle.certify_problem.specs.Problems.{IsProblemOf, IsRefuted, problem_in}
+use Rattle.certify_clauses.specs.Refuted.{IsRefuted}
+use Rattle.certify_problem.specs.Problems.{IsProblemOf}
 use Rattle.certify_problem.specs.declared.grounded.Grounded.{Grounded}
 use Rattle.certify_problem.specs.declared.grounded.Grounded.TheVariants as grounded
 

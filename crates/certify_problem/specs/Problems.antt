@@ -19,9 +19,7 @@ use Rattle.ground_problem.specs.Words.{vocabulary_at}
 use Rattle.ground_problem.specs.declared.facts.FactLiteral.{FactLiteral}
 use Rattle.ground_problem.specs.declared.facts.FactNode.{FactNode}
 use Rattle.ground_problem.specs.declared.spoken.Spoken.{Spoken}
-use Rattle.certify_clauses.specs.Listed.{problem_of}
 use Rattle.certify_clauses.specs.Problem.{IsLawfulAssignment, Problem}
-use Rattle.certify_clauses.specs.declared.listed.ListedClauses.{ListedClauses}
 use Rattle.certify_clauses.specs.declared.literal.Literal.{Literal}
 use Rattle.certify_atoms.specs.Atoms.{Both, IsAtomOf}
 use Rattle.certify_atoms.specs.Orders.{AreOrders}
@@ -30,10 +28,6 @@ use Rattle.certify_atoms.specs.Texts.{StandOnce}
 -- a literal of gates as one of certificates
 abbrev pub literal_of : GateLiteral → Literal
 literal_of l = record { var = l.var; plus = l.plus }
-
--- what clauses in memory are
-abbrev pub problem_in : ListedClauses → Problem
-problem_in c = problem_of c.clauses.items c.atoms.items c.terms c.fixed.items c.numbers
 
 -- The first variables are the facts of which clauses speak. The clauses are all those of a table, on one term and of congruence; those that say that the
 -- numbers are ordered which are equal as facts; and those that say that the formula's gate is true, which can have variables of their own. A variable is an
@@ -60,10 +54,6 @@ pub record IsProblemOf (g : Signature) (f : Formula) (terms : List GroundTerm) (
   pub terms_are : c.terms ≡ length spoken.made.terms + length texts
   pub fixed_are : c.fixed ≡ range_with_len (length spoken.made.terms) (length texts)
   pub numbers_are : c.numbers ≡ length spoken.made.terms + 1
-
--- no assignment is lawful
-abbrev pub IsRefuted : Problem → Type 0
-IsRefuted c = (a : ℕ → Bool) → IsLawfulAssignment c a → ⊥
 
 -- where some structure passes a formula over terms, some assignment is lawful
 abbrev pub StructuresGiveAssignments : Type 0

@@ -18,7 +18,7 @@ ghost use Rattle.form_terms.specs.Universe.{IsHerbrandTerm, IsShallowTerm};
 ghost use Rattle.ground_terms.specs.Limited.{IsRefusal};
 ghost use Rattle.ground_terms.specs.TermLists.{terms_in};
 ghost use Rattle.certify_problem.specs.Grounded.{IsGrounded, IsProblemFor};
-ghost use Rattle.certify_problem.specs.Problems.{problem_in};
+ghost use Rattle.certify_clauses.specs.InMemory.{problem_in};
 
 use crate::grounded::Grounded;
 use crate::problems::clauses_over;

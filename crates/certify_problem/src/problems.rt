@@ -13,7 +13,8 @@ ghost use Rattle.ground_problem.specs.Inputs.{AreFieldsOf};
 ghost use Rattle.ground_problem.specs.Spoken.{IsSpoken};
 ghost use Rattle.ground_problem.specs.Words.{IsWords};
 ghost use Rattle.certify_problem.specs.Making.{AreMadeOf, IsMadeOf};
-ghost use Rattle.certify_problem.specs.Problems.{IsProblemOf, problem_in};
+ghost use Rattle.certify_clauses.specs.InMemory.{problem_in};
+ghost use Rattle.certify_problem.specs.Problems.{IsProblemOf};
 
 use crate::listed::{all_clauses, listed, pad};
 use crate::tables::{add_clauses, table_clauses};

@@ -16,7 +16,7 @@ use Rattle.duty_meaning.specs.declared.duty.Duty.{Duty}
 use Rattle.duty_meaning.proofs.Shapes.{structures_are_over, unsatisfied_secure}
 use Rattle.certify_clauses.specs.Problem.{Problem}
 use Rattle.certify_clauses.proofs.Refuting.{trees_refute}
-use Rattle.certify_problem.specs.Problems.{IsRefuted}
+use Rattle.certify_clauses.specs.Refuted.{IsRefuted}
 use Rattle.certify_recheck.specs.Due.{AreDue, Due, ending, heading, left_of, part}
 use Rattle.certify_recheck.specs.Lines.{lines_at}
 use Rattle.certify_recheck.specs.declared.line.Line.{Line}

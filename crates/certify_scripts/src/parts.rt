@@ -7,7 +7,7 @@ ghost use Rattle.duty_numbering.specs.Numbers.{numbers_of};
 ghost use Rattle.type_schema.specs.SchemaViews.{schema_of, script_of};
 ghost use Rattle.type_schema.specs.Script.{IsScript};
 ghost use Rattle.certify_problem.specs.Grounded.{IsGrounded};
-ghost use Rattle.certify_problem.specs.Problems.{problem_in};
+ghost use Rattle.certify_clauses.specs.InMemory.{problem_in};
 ghost use Rattle.form_formula.specs.NormalForm.{normal_form};
 ghost use Rattle.certify_scripts.specs.Passed.{ArePartsOf, HasParts, IsPartOf, IsPartOver, IsWithin};
 

@@ -6,7 +6,7 @@ use Rattle.certify_recheck.specs.Walking.{IsStep}
 use Rattle.certify_recheck.specs.declared.line.Line.{Line}
 use Rattle.certify_recheck.specs.declared.walk.Step.{Step}
 use Rattle.certify_making.specs.Following.{IsBegun}
-use Rattle.certify_making.specs.Making.{problem_in}
+use Rattle.certify_clauses.specs.InMemory.{problem_in}
 use Rattle.certify_making.specs.Open.{IsOpen}
 use Rattle.certify_making.specs.Texts.{IsSmall}
 use Rattle.certify_making.proofs.Following.{begun_more}

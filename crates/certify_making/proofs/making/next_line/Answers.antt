@@ -3,7 +3,7 @@ use Rattle.std.proofs.lemmas.Bool.{both_ways}
 use Rattle.std.specs.Prelude.{MatchOption}
 use Rattle.certify_clauses.specs.Trees.{IsFalseClause, IsWithoutModel}
 use Rattle.certify_clauses.specs.declared.literal.Literal.{Literal}
-use Rattle.certify_making.specs.Making.{problem_in}
+use Rattle.certify_clauses.specs.InMemory.{problem_in}
 use Rattle.certify_making.proofs.making.next_line.Goals as goal
 
 pub returns-in-None-clause-next : goal.returns-in-None-clause-next

@@ -4,7 +4,7 @@ use Rattle.certify_clauses.specs.declared.literal.Literal.{Literal}
 use Rattle.certify_recheck.specs.Due.{due_at}
 use Rattle.certify_recheck.specs.declared.line.Line.TheVariants.{Duty}
 use Rattle.certify_making.specs.Following.{IsBegun}
-use Rattle.certify_making.specs.Making.{problem_in}
+use Rattle.certify_clauses.specs.InMemory.{problem_in}
 use Rattle.certify_making.specs.Texts.{bytes_of}
 use Rattle.certify_making.proofs.Following.{begun, ended, ready_at}
 use Rattle.certify_making.proofs.making.part_text.Goals as goal

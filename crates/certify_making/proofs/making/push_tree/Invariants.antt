@@ -3,7 +3,7 @@ use Rattle.std.proofs.Common.{◌≡◌}
 use Rattle.certify_recheck.specs.Due.{due_at}
 use Rattle.certify_recheck.specs.Walking.{IsReady}
 use Rattle.certify_making.specs.Following.{IsBegun, work}
-use Rattle.certify_making.specs.Making.{problem_in}
+use Rattle.certify_clauses.specs.InMemory.{problem_in}
 use Rattle.certify_making.proofs.making.push_tree.Given as goal
 
 abbrev pub invariant-lines : goal.invariant-lines

@@ -2,7 +2,7 @@ use Rattle.std.proofs.Common.{inr}
 use Rattle.form_formula.specs.Nodes.{formula_of}
 use Rattle.form_tables.proofs.TermsFormed.{terms_within}
 use Rattle.ground_terms.specs.TermLists.{terms_in}
-use Rattle.certify_problem.specs.Problems.{problem_in}
+use Rattle.certify_clauses.specs.InMemory.{problem_in}
 use Rattle.certify_problem.proofs.FormulaLaws.{problem_for}
 use Rattle.certify_problem.proofs.Lists.{ok_too}
 use Rattle.certify_problem.proofs.formulas.over_shallow_terms.Goals as goal

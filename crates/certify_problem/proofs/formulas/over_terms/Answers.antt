@@ -2,7 +2,7 @@ use Rattle.std.proofs.Common.{inl}
 use Rattle.form_formula.specs.Nodes.{formula_of}
 use Rattle.form_tables.proofs.TermsFormed.{terms_herbrand}
 use Rattle.ground_terms.specs.TermLists.{terms_in}
-use Rattle.certify_problem.specs.Problems.{problem_in}
+use Rattle.certify_clauses.specs.InMemory.{problem_in}
 use Rattle.certify_problem.proofs.FormulaLaws.{problem_for}
 use Rattle.certify_problem.proofs.Lists.{ok_too}
 use Rattle.certify_problem.proofs.formulas.over_terms.Goals as goal

@@ -1,4 +1,4 @@
-use Rattle.certify_problem.specs.Problems.{problem_in}
+use Rattle.certify_clauses.specs.InMemory.{problem_in}
 use Rattle.certify_scripts.proofs.PartLaws.{part_passes, within_more}
 use Rattle.certify_scripts.proofs.parts.recheck_over.Goals as goal
 

@@ -3,7 +3,7 @@ use Rattle.type_schema.specs.SchemaViews.{script_of}
 use Rattle.form_formula.specs.NormalForm.{normal_form}
 use Rattle.duty_meaning.specs.Duties.{formula_of}
 use Rattle.certify_problem.specs.Grounded.{IsGrounded}
-use Rattle.certify_problem.specs.Problems.{problem_in}
+use Rattle.certify_clauses.specs.InMemory.{problem_in}
 use Rattle.certify_problem.specs.declared.grounded.Grounded.{Grounded}
 use Rattle.certify_scripts.proofs.PartLaws.{ok_too, part_of}
 use Rattle.certify_scripts.proofs.parts.Checking.part.Goals as goal

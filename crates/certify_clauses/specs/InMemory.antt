@@ -1,4 +1,4 @@
--- Clauses in memory.
+-- What clauses in memory are.
 use Rattle.certify_clauses.specs.Listed.{problem_of}
 use Rattle.certify_clauses.specs.Problem.{Problem}
 use Rattle.certify_clauses.specs.declared.listed.ListedClauses.{ListedClauses}
