@@ -1,6 +1,8 @@
 pub mod Cycles
-pub mod EdgeLemmas
 pub mod EdgesBelow
+pub mod Members
 pub mod OrderLemmas
 pub mod PlaceLemmas
+pub mod SoughtLaws
 pub mod TermEdgeLemmas
+pub mod VisitLaws

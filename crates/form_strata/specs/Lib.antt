@@ -1,8 +1,8 @@
 pub mod Dependence
 pub mod Order
-pub mod Pending
 pub mod Places
 pub mod Public
 pub mod Search
 pub mod SortGraph
 pub mod Strata
+pub mod Visits

@@ -16,8 +16,8 @@ use std::alloc::{AllocError, Global};
 /// Gives an order of the sorts along which every edge of a formula's sort graph goes forward, or a
 /// cycle of that graph.
 ///
-/// The walk for the edges takes a step for each node of the formula as a tree, and sorting time
-/// with the sorts and the edges that it lists.
+/// The walk for the edges takes a step for each node and for each that may stand above it, as far
+/// as edges depend on it, and sorting time with the sorts and the edges that it lists.
 pub fn strata(
     alloc: Global,
     arena: &Arena,

@@ -1,28 +1,28 @@
 //! The edges of the terms in atoms.
 
-ghost use Rattle.std.specs.Prelude.{◌≡◌, ◌++◌, true, slice_get, slice_index_or, IfOk, OnOk};
-ghost use Rattle.std.specs.Option.{option_to_list};
+ghost use Rattle.std.specs.Prelude.{◌≡◌, ◌++◌, true, slice_get, IfOk, OnOk};
 ghost use Rattle.form_formula.specs.Nodes.{IsTerm, term_of};
 ghost use Rattle.form_strata.specs.SortGraph.{is_dependent, term_edges, function_edge, range_edge};
 ghost use Rattle.form_strata.specs.Dependence.{own_dependence};
+ghost use Rattle.form_strata.specs.Visits.{free_ones};
 
 use form_formula::{Arena, Node, Range, Signature};
 use std::alloc::AllocError;
 
-/// Adds the edges of a term, where these of the variables above are dependent.
+/// Adds the edges of a term, where all variables above are dependent but so many of the outermost.
 pub(crate) fn add_term_edges(
     arena: &Arena,
     signature: &Signature,
-    dependent: &[bool],
+    free: u32,
     id: u32,
     edges: &mut Vec<(u32, u32)>,
 ) -> Result<(), AllocError>
     requires { IsTerm arena.now id }
     ensures { OnOk result (edges.new.items
-        ≡ edges.old.items ++ term_edges dependent.now signature.now (term_of arena.now id)) }
+        ≡ edges.old.items ++ term_edges (free_ones free) signature.now (term_of arena.now id)) }
 {
-    if is_dependent(arena, dependent, id) {
-        add_function_edges(arena, signature, dependent, id, edges)
+    if is_dependent(arena, free, id) {
+        add_function_edges(arena, signature, free, id, edges)
     } else {
         Ok(())
     }
@@ -32,14 +32,14 @@ pub(crate) fn add_term_edges(
 fn add_function_edges(
     arena: &Arena,
     signature: &Signature,
-    dependent: &[bool],
+    free: u32,
     id: u32,
     edges: &mut Vec<(u32, u32)>,
 ) -> Result<(), AllocError>
     requires term { IsTerm arena.now id }
-    requires dependent { is_dependent dependent.now (term_of arena.now id) ≡ true }
+    requires dependent { is_dependent (free_ones free) (term_of arena.now id) ≡ true }
     ensures { OnOk result (edges.new.items
-        ≡ edges.old.items ++ term_edges dependent.now signature.now (term_of arena.now id)) }
+        ≡ edges.old.items ++ term_edges (free_ones free) signature.now (term_of arena.now id)) }
 {
     let mut at = id;
     while let Node::App(f, t) = arena.node(at) {
@@ -67,25 +67,25 @@ fn add_edge(signature: &Signature, f: u32, edges: &mut Vec<(u32, u32)>) -> Resul
 }
 
 /// Whether a term holds a dependent variable.
-fn is_dependent(arena: &Arena, dependent: &[bool], id: u32) -> bool
+fn is_dependent(arena: &Arena, free: u32, id: u32) -> bool
     requires { IsTerm arena.now id }
-    ensures { result ≡ is_dependent dependent.now (term_of arena.now id) }
+    ensures { result ≡ is_dependent (free_ones free) (term_of arena.now id) }
 {
     let mut at = id;
     loop {
         match arena.node(at) {
             Node::App(_, t) => at = *t,
-            node => return is_dependent_node(dependent, node),
+            node => return is_dependent_node(free, node),
         }
     }
 }
 
 /// Whether a node that is no function at a term is a dependent variable.
-fn is_dependent_node(dependent: &[bool], node: &Node) -> bool
-    ensures { result ≡ own_dependence dependent.now node.now }
+fn is_dependent_node(free: u32, node: &Node) -> bool
+    ensures { result ≡ own_dependence (free_ones free) node.now }
 {
     match node {
-        Node::Bound(_, depth) => dependent.get(*depth as usize).copied().unwrap_or(true),
+        Node::Bound(_, depth) => *depth >= free,
         Node::Num(_)
         | Node::Str(_)
         | Node::App(..)

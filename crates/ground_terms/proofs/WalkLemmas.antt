@@ -8,7 +8,7 @@ use Rattle.form_formula.specs.declared.node.Node.TheVariants as node
 use Rattle.form_formula.specs.Nodes.{IsFormula, IsPlaced, formula_of, formula_part, tree_of, tree_from, trees_of}
 use Rattle.form_terms.specs.Parts.{quantifiers, parts, name_of}
 use Rattle.form_terms.specs.Parts as tree
-use Rattle.form_strata.specs.Pending.{tree_size}
+use Rattle.form_strata.specs.Visits.{steps_of}
 use Rattle.ground_terms.specs.declared.part.Name.{Name}
 use Rattle.ground_terms.specs.declared.part.Part.{Part}
 use Rattle.ground_terms.specs.declared.walk.Pending.{Pending}
@@ -139,7 +139,7 @@ module _ (nodes : List Node) where
 
   -- a step of a walk takes one from what is left
   fewer_steps : (names : List (Option Name)) (above : List ℕ) (p : Pending) (n : Node)
-      → steps_left nodes (pending_of p names above n) < tree_size (formula_part (tree_from (trees_of nodes) n))
+      → steps_left nodes (pending_of p names above n) < steps_of (formula_part (tree_from (trees_of nodes) n))
   fewer_steps names above p (node.Bound sort depth) = omega arith
   fewer_steps names above p (node.Num n) = omega arith
   fewer_steps names above p (node.Str t) = omega arith
@@ -313,11 +313,11 @@ module _ (nodes : List Node) where
       let counted : m1 + quantifiers_left nodes later_parts ≡ m2 = omega arith in
       let l = length-append names1 (names_of number above1 n) in
       let m = length-append above1 (universal_of n) in
-      let steps : steps_left nodes pending0 ≡ steps_left nodes rest + tree_size (formula_of nodes p.id) =
-      ap (λ xs. steps_left nodes xs) whole ∙ (sum_by-append (λ p. tree_size (formula_of nodes p.id)) rest (p ∷ []) ∙ one_more (steps_left nodes rest) (tree_size (formula_of nodes p.id))) in
-      let later = sum_by-append (λ p. tree_size (formula_of nodes p.id)) rest later_parts in
+      let steps : steps_left nodes pending0 ≡ steps_left nodes rest + steps_of (formula_of nodes p.id) =
+      ap (λ xs. steps_left nodes xs) whole ∙ (sum_by-append (λ p. steps_of (formula_of nodes p.id)) rest (p ∷ []) ∙ one_more (steps_left nodes rest) (steps_of (formula_of nodes p.id))) in
+      let later = sum_by-append (λ p. steps_of (formula_of nodes p.id)) rest later_parts in
       let fewer = fewer_steps names1 above1 p n in
-      let steps_of : tree_size (formula_of nodes p.id) ≡ tree_size (formula_part (tree_from (trees_of nodes) n)) = ap (λ tree. tree_size (formula_part tree)) means in (
+      let means_steps : steps_of (formula_of nodes p.id) ≡ steps_of (formula_part (tree_from (trees_of nodes) n)) = ap (λ tree. steps_of (formula_part tree)) means in (
         pending_append p.quantifiers p.universals rest later_parts split.0 split.2 (parts_pending names1 above1 p n placed) (parts_outside names1 above1 p n q u),
         within_append p.quantifiers p.universals (length names2) (length above2) rest later_parts (omega arith) (omega arith) split.2 (parts_within names1 above1 number p n q u),
         ap (λ es. (found0 ++ own) ++ es) (all_parts-append names2 above2 m1 rest later_parts ∙ ap (λ k. E1 ++ all_parts nodes names2 above2 k rest) counted)

@@ -5,7 +5,7 @@ use Rattle.form_formula.specs.declared.node.Node.TheVariants as node
 use Rattle.form_formula.specs.Nodes.{IsFormula, formula_of, term_of}
 use Rattle.form_terms.specs.Parts.{quantifiers, parts}
 use Rattle.form_terms.specs.Parts as tree
-use Rattle.form_strata.specs.Pending.{tree_size}
+use Rattle.form_strata.specs.Visits.{steps_of}
 use Rattle.ground_terms.specs.declared.part.Name.{Name}
 use Rattle.ground_terms.specs.declared.part.Part.{Part}
 use Rattle.ground_terms.specs.declared.walk.Pending.{Pending}
@@ -52,7 +52,7 @@ ArePending nodes (p ∷ pending) = IsFormula nodes p.id × AreOutside p.quantifi
 
 -- how many steps all take that are pending
 abbrev pub steps_left : List Node → List Pending → ℕ
-steps_left nodes pending = sum_by (λ p. tree_size (formula_of nodes p.id)) pending
+steps_left nodes pending = sum_by (λ p. steps_of (formula_of nodes p.id)) pending
 
 -- what is pending can be walked over, and there are these parts in all, those found included
 pub record IsWalkOf (nodes : List Node) (total : List tree.Part) (w : Walk) : Type 0 where
