@@ -10,7 +10,7 @@ ghost use Rattle.ground_terms.specs.TermLists.{terms_in};
 ghost use Rattle.form_tables.specs.Vocabulary.{AreFormed};
 ghost use Rattle.form_terms.specs.GroundTerms.{GroundTerm};
 ghost use Rattle.form_terms.specs.Passing.{IsSatisfiableOver};
-ghost use Rattle.ground_problem.specs.Inputs.{AreFieldsOf};
+ghost use Rattle.ground_problem.specs.Inputs.{AreFieldsOf, RelateTerms};
 ghost use Rattle.ground_problem.specs.Spoken.{IsSpoken};
 ghost use Rattle.ground_problem.specs.Words.{IsWords, vocabulary_at};
 ghost use Rattle.decide_search.specs.declared.mixture.Mixture.{Mixture as AnyMixture};
@@ -190,6 +190,7 @@ fn round_by(
     requires words { IsWords spoken.now.made.terms spoken.now.words }
     requires fields { AreFieldsOf spoken.now.made.terms spoken.now.made.inputs
         spoken.now.fields.items }
+    requires terms { RelateTerms spoken.now.made.inputs }
     requires below { HaveInputsBelow (length spoken.now.made.inputs) spoken.now.made.gates }
     requires there { spoken.now.made.root < length spoken.now.made.gates }
     requires listed { AreListed signature.now arena.now spoken.now.made.terms spoken.now.words
@@ -219,6 +220,7 @@ fn table_for(
     requires words { IsWords spoken.now.made.terms spoken.now.words }
     requires fields { AreFieldsOf spoken.now.made.terms spoken.now.made.inputs
         spoken.now.fields.items }
+    requires terms { RelateTerms spoken.now.made.inputs }
     requires below { HaveInputsBelow (length spoken.now.made.inputs) spoken.now.made.gates }
     requires there { spoken.now.made.root < length spoken.now.made.gates }
     ensures none { IfOk result (λ found. found ≡ None → (f : Formula) (terms : List GroundTerm)
@@ -251,8 +253,9 @@ fn spoken_of(
     requires formula { IsFormula arena.now id }
     requires over { IsOver signature.now [] (formula_of arena.now id) }
     requires formed { AreFormed signature.now (formula_of arena.now id) (terms_in terms) }
-    ensures { IfOk result (IsSpoken signature.now arena.now (formula_of arena.now id)
+    ensures spoken { IfOk result (IsSpoken signature.now arena.now (formula_of arena.now id)
         (terms_in terms) closed) }
+    ensures terms { IfOk result (λ spoken. RelateTerms spoken.made.inputs) }
 {
     let variables = variables_of(alloc, arena, id)?;
     let made = instantiate(alloc, arena, id, signature, terms)?;

@@ -11,6 +11,7 @@ use Rattle.ground_gates.specs.Clauses.{HasInputBelow, HaveInputsBelow}
 use Rattle.ground_gates.specs.Gates.{gate_value, value_of, values_of}
 use Rattle.ground_gates.proofs.Values.{value_of-front}
 use Rattle.form_terms.specs.GroundTerms.{GroundTerm}
+use Rattle.form_terms.proofs.Lists.{Contains-head, Contains-none, Contains-tail}
 use Rattle.ground_terms.specs.declared.node.TermNode.{TermNode}
 use Rattle.ground_terms.specs.Nodes.{Extends}
 use Rattle.ground_terms.proofs.Standing.{extends_none, extends_both, one_kept, term_kept}
@@ -21,7 +22,32 @@ use Rattle.ground_instances.specs.declared.input.Input.TheVariants as input
 use Rattle.ground_instances.specs.declared.board.Board.{Board}
 use Rattle.ground_instances.specs.Boards.{Grows, Means}
 use Rattle.ground_instances.specs.GroundAtoms.{GroundAtom, named, flagged, present_at}
-use Rattle.ground_instances.specs.Inputs.{IsNumbered, IsValue, IsInput, value_at, input_value, AreInputsOf}
+use Rattle.ground_instances.specs.Inputs.{IsNumbered, IsValue, IsInput, AreInputs, value_at, input_value, AreInputsOf}
+
+-- the numbers in values and inputs stay those of terms
+pub fits_kept : (xs ys : List TermNode) (v : Value) → Extends xs ys → IsValue xs v → IsValue ys v
+fits_kept xs ys (Term t) e h = one_kept xs ys t e h
+fits_kept xs ys (Written t) e h = tt
+
+fits_later : (xs ys : List TermNode) (i : AnInput) → Extends xs ys → IsInput xs i → IsInput ys i
+fits_later xs ys (input.There t) e h = one_kept xs ys t e h
+fits_later xs ys (input.Equal v w) e h = (fits_kept xs ys v e h.0, fits_kept xs ys w e h.1)
+fits_later xs ys (input.Less v w) e h = (fits_kept xs ys v e h.0, fits_kept xs ys w e h.1)
+fits_later xs ys (input.Has r v w) e h = (fits_kept xs ys v e h.0, fits_kept xs ys w e h.1)
+fits_later xs ys (input.Flag k v) e h = fits_kept xs ys v e h
+fits_later xs ys (input.Present k v) e h = fits_kept xs ys v e h
+
+pub all_later : (xs ys : List TermNode) (is : List AnInput) → Extends xs ys → AreInputs xs is → AreInputs ys is
+all_later xs ys [] e h = tt
+all_later xs ys (i ∷ is) e h = (fits_later xs ys i e h.0, all_later xs ys is e h.1)
+
+all_fit : (xs : List TermNode) (is : List AnInput) → ((i : AnInput) → Contains is i → IsInput xs i) → AreInputs xs is
+all_fit xs [] h = tt
+all_fit xs (i ∷ is) h = (h i (Contains-head i is), all_fit xs is (λ j c. h j (Contains-tail i is j c)))
+
+all_more : (xs : List TermNode) (is js : List AnInput) → AreInputs xs is → ((i : AnInput) → Contains js i → IsInput xs i) → AreInputs xs (is ++ js)
+all_more xs [] js h more = all_fit xs js more
+all_more xs (i ∷ is) js h more = (h.0, all_more xs is js h.1 more)
 
 pub grows_none : (a : Board) → Grows a a
 grows_none a = record {
@@ -31,6 +57,7 @@ grows_none a = record {
   more_gates = [];
   gates = sym (append-nil a.gates);
   below = λ h. h;
+  stand = λ h. h;
 }
 
 pub grows_both : (a b d : Board) → Grows a b → Grows b d → Grows a d
@@ -41,6 +68,7 @@ grows_both a b d p q = record {
   more_gates = p.more_gates ++ q.more_gates;
   gates = q.gates ∙ (ap (λ xs. xs ++ q.more_gates) p.gates ∙ append_assoc a.gates p.more_gates q.more_gates);
   below = λ h. q.below (p.below h);
+  stand = λ h. q.stand (p.stand h);
 }
 
 -- more terms alone
@@ -48,6 +76,7 @@ pub grows_terms : (a b : Board) → Extends a.terms b.terms → b.inputs ≡ a.i
 grows_terms a b e i h =
     let P : List AnInput → Type 0 = λ xs. HaveInputsBelow (length xs) b.gates in
     let Q : List Gate → Type 0 = λ xs. HaveInputsBelow (length a.inputs) xs in
+    let S : List AnInput → Type 0 = λ xs. AreInputs b.terms xs in
     record {
       terms = e;
       more_inputs = [];
@@ -55,6 +84,7 @@ grows_terms a b e i h =
       more_gates = [];
       gates = h ∙ sym (append-nil a.gates);
       below = λ x. subst P (sym i) (subst Q (sym h) x);
+      stand = λ x. subst S (sym i) (all_later a.terms b.terms a.inputs e x);
     }
 
 -- a gate means what it meant
@@ -97,10 +127,13 @@ below_added n m old gate new id le added here all k other e =
     ]
 
 -- one more gate, and maybe one more input
-pub gate_added : (a b : Board) (more : List AnInput) (gate : Gate) (id : ℕ) → b.terms ≡ a.terms → b.inputs ≡ a.inputs ++ more → IsAdded a.gates gate b.gates id → HasInputBelow (length b.inputs) gate → Grows a b
-gate_added a b more gate id e i added here =
+pub gate_added : (a b : Board) (more : List AnInput) (gate : Gate) (id : ℕ) → b.terms ≡ a.terms → b.inputs ≡ a.inputs ++ more → ((j : AnInput) → Contains more j → IsInput a.terms j) → IsAdded a.gates gate b.gates id
+    → HasInputBelow (length b.inputs) gate → Grows a b
+gate_added a b more gate id e i fit added here =
     let le : length a.inputs ≤ length b.inputs = omega (arith, ap length i, length-append a.inputs more) in
     let P : List TermNode → Type 0 = λ ts. Extends a.terms ts in
+    let S : List TermNode → Type 0 = λ ts. AreInputs ts b.inputs in
+    let T : List AnInput → Type 0 = λ xs. AreInputs a.terms xs in
     record {
       terms = subst P (sym e) (extends_none a.terms);
       more_inputs = more;
@@ -108,10 +141,11 @@ gate_added a b more gate id e i added here =
       more_gates = added.more;
       gates = added.whole;
       below = λ all. below_added (length a.inputs) (length b.inputs) a.gates gate b.gates id le added here all;
+      stand = λ x. subst S (sym e) (subst T (sym i) (all_more a.terms a.inputs more x fit));
     }
 
 pub gate_grows : (a b : Board) (gate : Gate) (id : ℕ) → b.terms ≡ a.terms → b.inputs ≡ a.inputs → IsAdded a.gates gate b.gates id → HasInputBelow (length b.inputs) gate → Grows a b
-gate_grows a b gate id e i added here = gate_added a b [] gate id e (i ∙ sym (append-nil a.inputs)) added here
+gate_grows a b gate id e i added here = gate_added a b [] gate id e (i ∙ sym (append-nil a.inputs)) (λ j c. Contains-none j c) added here
 
 -- what the added gate is worth later
 module _ (nodes : List Node) (a b : Board) (id : ℕ) where
@@ -160,10 +194,6 @@ module _ (nodes : List Node) (a b : Board) (id : ℕ) where
 pub value_kept : (nodes : List Node) (xs ys : List TermNode) (v : Value) → Extends xs ys → IsValue xs v → value_at nodes ys v ≡ value_at nodes xs v
 value_kept nodes xs ys (Term t) e h = ap named (term_kept xs ys t e h)
 value_kept nodes xs ys (Written t) e h = refl
-
-pub fits_kept : (xs ys : List TermNode) (v : Value) → Extends xs ys → IsValue xs v → IsValue ys v
-fits_kept xs ys (Term t) e h = one_kept xs ys t e h
-fits_kept xs ys (Written t) e h = tt
 
 module _ (nodes : List Node) (xs ys : List TermNode) (e : Extends xs ys) (is_there : GroundTerm → Bool) (holds : GroundAtom → Bool) where
   pub input_kept : (i : AnInput) → IsInput xs i → input_value nodes ys is_there holds i ≡ input_value nodes xs is_there holds i

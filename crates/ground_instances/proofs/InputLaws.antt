@@ -1,8 +1,9 @@
 -- Equal inputs are the same, and have one number.
-use Rattle.std.proofs.Common.{◌≡◌, ℕ, true, false, ◌&&◌, refl, sym, subst, ◌∙◌, List, [], ◌∷◌, ◌++◌, Some, length, ◌≤◌, cond, ap, rules, arith, slice_get}
+use Rattle.std.proofs.Common.{◌≡◌, ℕ, true, false, ◌&&◌, refl, sym, subst, ◌∙◌, List, [], ◌∷◌, ◌++◌, Some, length, ◌≤◌, cond, ap, rules, arith, slice_get, inl, inr, Contains}
 use Rattle.std.specs.Prelude.{nat_eq}
 use Rattle.std.specs.List.{list_any}
 use Rattle.std.proofs.lemmas.Bool.{eqb-true, and_parts}
+use Rattle.form_terms.proofs.Lists.{Contains-cons_cases, Contains-none}
 use Rattle.indexmap.specs.IndexSet.{insert_key}
 use Rattle.ground_instances.specs.declared.input.Value.{Value}
 use Rattle.ground_instances.specs.declared.input.Value.TheVariants.{Term, Literal}
@@ -48,12 +49,15 @@ same_input (Flag a b) j e = cc
 same_input (Present a b) (Present c d) e = same_one (λ a b. Present a b) a b c d e
 same_input (Present a b) j e = cc
 
+only_one : (input other : Input) → Contains (input ∷ []) other → other ≡ input
+only_one input other c = elim (Contains-cons_cases input [] other c) [ inl same ↦ sym same | inr none ↦ Contains-none other none ]
+
 -- an insertion adds one input or none
-pub more_by_insert : (old : List Input) (input : Input) → (more : List Input) × (insert_key (input_eq.ghosts).eq old input ≡ old ++ more) × (length more ≤ 1)
+pub more_by_insert : (old : List Input) (input : Input) → (more : List Input) × (insert_key (input_eq.ghosts).eq old input ≡ old ++ more) × (length more ≤ 1) × ((other : Input) → Contains more other → other ≡ input)
 more_by_insert old input =
-    elim (list_any ((input_eq.ghosts).eq input) old) as (λ b. (more : List Input) × (cond b old (old ++ input ∷ []) ≡ old ++ more) × (length more ≤ 1)) [
-      | true ↦ ([], search rules, omega arith)
-      | false ↦ (input ∷ [], refl, omega arith)
+    elim (list_any ((input_eq.ghosts).eq input) old) as (λ b. (more : List Input) × (cond b old (old ++ input ∷ []) ≡ old ++ more) × (length more ≤ 1) × ((other : Input) → Contains more other → other ≡ input)) [
+      | true ↦ ([], search rules, omega arith, λ other c. Contains-none other c)
+      | false ↦ (input ∷ [], refl, omega arith, λ other c. only_one input other c)
     ]
 
 -- the inputs after an insertion, where the number is that of an equal input
@@ -62,4 +66,4 @@ pub numbered_by : (old : List Input) (input : Input) (new : List Input) (id : �
 numbered_by old input new id k e at same =
     let P : Input → Type 0 = λ i. slice_get new id ≡ Some i in
     let more = more_by_insert old input in
-    record { there = subst P (sym (same_input input k same)) at; more = more.0; whole = e ∙ more.1 }
+    record { there = subst P (sym (same_input input k same)) at; more = more.0; whole = e ∙ more.1; only = more.3 }

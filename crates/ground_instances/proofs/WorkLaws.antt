@@ -23,7 +23,8 @@ use Rattle.ground_instances.specs.declared.board.Board.{Board}
 use Rattle.ground_instances.specs.declared.work.Work.{Work}
 use Rattle.ground_instances.specs.Boards.{Grows, Means}
 use Rattle.ground_instances.specs.GroundAtoms.{GroundAtom, holds_at}
-use Rattle.ground_instances.specs.Inputs.{AreInputsOf}
+use Rattle.ground_instances.specs.declared.input.Input.{Input as AnInput}
+use Rattle.ground_instances.specs.Inputs.{AreInputs, AreInputsOf}
 use Rattle.ground_instances.specs.Instances.{IsGate, IsInstanceOf, IsInstance, IsMemo, IsReady, AddsEntry, instance_reading}
 use Rattle.ground_instances.specs.Made.{AreInstancesOf, GoesOn, IsWorkFor}
 use Rattle.ground_instances.specs.Readings.{reading}
@@ -44,6 +45,7 @@ module _ (g : Signature) (nodes : List Node) (shapes : List Shape) (listed : Lis
       let I : List Instance → Type 0 = λ is. (i : Instance) → Contains is i → IsInstance nodes shapes work.board.terms i in
       let same : terms_at work.board.terms listed ≡ ts = terms_kept before work.board.terms listed h.kept stand.ones ∙ stand.are in
       let H : List Gate → Type 0 = λ gs. HaveInputsBelow (length work.board.inputs) gs in
+      let S : List AnInput → Type 0 = λ is. AreInputs work.board.terms is in
       let E : HaveInputsBelow (length work.board.inputs) [] = λ k gate e. cc in
       record {
         ready = record {
@@ -59,6 +61,7 @@ module _ (g : Signature) (nodes : List Node) (shapes : List Shape) (listed : Lis
             ap (λ us. instance_reading g us nodes work.board.terms root i x) (sym same)
             ∙ (read_instance g nodes shapes listed shape id 0 [] [] before work.board.terms root shape_is h stand.ones i x ∙ ap (λ us. reading g us i x 0 [] no_terms (formula_of nodes id)) stand.are);
         below = subst H (sym no_gates) E;
+        stand = subst S (sym no_inputs) tt;
       }
 
   -- one step
@@ -71,6 +74,7 @@ module _ (g : Signature) (nodes : List Node) (shapes : List Shape) (listed : Lis
         ap (λ us. instance_reading g us nodes b.board.terms root i x) (sym (terms_kept a.board.terms b.board.terms listed on.grows.terms h.ready.ones ∙ h.terms))
         ∙ (sym (reading_kept g nodes shapes listed a.board.terms b.board.terms root on.grows.terms h.ready.ones h.fits i x) ∙ (ap (λ us. instance_reading g us nodes a.board.terms root i x) h.terms ∙ h.reads i x));
     below = on.grows.below h.below;
+    stand = on.grows.stand h.stand;
   }
 
   -- the gate of the root
@@ -79,11 +83,11 @@ module _ (g : Signature) (nodes : List Node) (shapes : List Shape) (listed : Lis
       → made.listed.items ≡ listed → AreInstancesOf g nodes f ts made
   work_done ts f root w gate made h c t i e r l =
       let means : Means nodes w.board (instance_reading g (terms_at w.board.terms listed) nodes w.board.terms root) gate = (h.ready.memo root gate c).1 in
-      let P : Board → Type 0 = λ b. (gate < length b.gates) × HaveInputsBelow (length b.inputs) b.gates
+      let P : Board → Type 0 = λ b. (gate < length b.gates) × (HaveInputsBelow (length b.inputs) b.gates × AreInputs b.terms b.inputs)
       × ((is_there : GroundTerm → Bool) (holds : GroundAtom → Bool) (v : ℕ → Bool) → AreInputsOf nodes b.terms is_there holds b.inputs v → (value_of v b.gates gate ≡ true) ↔ Reads g is_there (holds_at holds) ts 0 [] no_terms f) in
       let all : P w.board = (
         means.within,
-        h.below,
+        (h.below, h.stand),
         λ is_there holds v are.
             let value : value_of v w.board.gates gate ≡ reading g ts is_there holds 0 [] no_terms f =
             means.is w.board is_there holds v (grows_none w.board) are ∙ (ap (λ us. instance_reading g us nodes w.board.terms root is_there holds) h.terms ∙ h.reads is_there holds) in
@@ -99,7 +103,7 @@ module _ (g : Signature) (nodes : List Node) (shapes : List Shape) (listed : Lis
       let stand : AreTermsAt w.board.terms listed ts = record { ones = h.ready.ones; are = h.terms } in
       let L : List ℕ → Type 0 = λ ids. AreTermsAt w.board.terms ids ts in
       let T : List TermNode → Type 0 = λ terms. AreTermsAt terms made.listed.items ts in
-      record { there = subst R (sym r) whole.0; below = whole.1; listed = subst T (sym t) (subst L (sym l) stand); reads = subst Q (sym r) whole.2 }
+      record { there = subst R (sym r) whole.0; below = whole.1.0; stand = whole.1.1; listed = subst T (sym t) (subst L (sym l) stand); reads = subst Q (sym r) whole.2 }
 
   -- what is missing are fewer
   pub ready_fewer : (a b : Work) (n : ℕ) → b.board ≡ a.board → b.memo.made.entries ≡ a.memo.made.entries → b.missing.items ≡ take n a.missing.items → IsReady g nodes shapes listed a → IsReady g nodes shapes listed b

@@ -10,9 +10,9 @@ use Rattle.ground_gates.specs.Clauses.{HaveInputsBelow}
 use Rattle.ground_instances.specs.declared.input.Input.{Input}
 use Rattle.ground_instances.specs.declared.board.Board.{Board}
 use Rattle.ground_instances.specs.GroundAtoms.{GroundAtom}
-use Rattle.ground_instances.specs.Inputs.{AreInputsOf}
+use Rattle.ground_instances.specs.Inputs.{AreInputs, AreInputsOf}
 
--- terms, inputs and gates are there as before, under their numbers, and inputs stay below their count
+-- terms, inputs and gates are there as before, under their numbers; the inputs in gates stay below their count, and the numbers in inputs those of terms
 pub record Grows (old new : Board) : Type 0 where
   pub terms : Extends old.terms new.terms
   pub more_inputs : List Input
@@ -20,6 +20,7 @@ pub record Grows (old new : Board) : Type 0 where
   pub more_gates : List Gate
   pub gates : new.gates ≡ old.gates ++ more_gates
   pub below : HaveInputsBelow (length old.inputs) old.gates → HaveInputsBelow (length new.inputs) new.gates
+  pub stand : AreInputs old.terms old.inputs → AreInputs new.terms new.inputs
 
 -- the gate is true just where the test is, now and later, in whatever setting the inputs have the values of what they stand for
 pub record Means (nodes : List Node) (board : Board) (test : (GroundTerm → Bool) → (GroundAtom → Bool) → Bool) (gate : ℕ) : Type 0 where

@@ -1,5 +1,5 @@
 -- What the variables of the gates stand for.
-use Rattle.std.specs.Prelude.{◌≡◌, ℕ, pos, Bool, false, List, ◌++◌, Option, None, Some, slice_get}
+use Rattle.std.specs.Prelude.{◌≡◌, ℕ, pos, Bool, false, List, [], ◌∷◌, ◌++◌, Option, None, Some, Contains, slice_get}
 use Rattle.form_formula.specs.declared.node.Node.{Node}
 use Rattle.form_formula.specs.Nodes as formula
 use Rattle.form_formula.specs.Trees.{Term as ATerm, Formula, bound, num, str, app}
@@ -12,11 +12,12 @@ use Rattle.ground_instances.specs.declared.input.Value.TheVariants.{Term, Litera
 use Rattle.ground_instances.specs.declared.input.Input.{Input}
 use Rattle.ground_instances.specs.declared.input.Input.TheVariants.{There, Equal, Less, Has, Flag, Present}
 
--- the number is the input's, and all inputs are there as before
+-- the number is the input's, and all inputs are there as before, with no other one
 pub record IsNumbered (old : List Input) (input : Input) (new : List Input) (id : ℕ) : Type 0 where
   pub there : slice_get new id ≡ Some input
   pub more : List Input
   pub whole : new ≡ old ++ more
+  pub only : (other : Input) → Contains more other → other ≡ input
 
 -- the number in a value is that of a ground term
 abbrev pub IsValue : List TermNode → Value → Type 0
@@ -30,6 +31,11 @@ IsInput terms (Less v w) = IsValue terms v × IsValue terms w
 IsInput terms (Has r v w) = IsValue terms v × IsValue terms w
 IsInput terms (Flag h v) = IsValue terms v
 IsInput terms (Present h v) = IsValue terms v
+
+-- and so in all of some inputs
+abbrev pub AreInputs : List TermNode → List Input → Type 0
+AreInputs terms [] = Unit {0}
+AreInputs terms (i ∷ is) = IsInput terms i × AreInputs terms is
 
 -- of what may be no atom
 abbrev pub MayBeInput : List TermNode → Option Input → Type 0

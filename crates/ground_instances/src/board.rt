@@ -51,9 +51,9 @@ impl Board {
 
     /// The gate that is true where an input is, or where it is not.
     pub(crate) fn input(&mut self, input: Input, plus: bool) -> Result<u32, AllocError>
+        requires { IsInput self.old.terms input }
         ensures grows { OnOk result (Grows self.old self.new) }
-        ensures means { IfOk result (λ gate. (nodes : List AnyNode) →
-            IsInput self.old.terms input → Means nodes self.new
+        ensures means { IfOk result (λ gate. (nodes : List AnyNode) → Means nodes self.new
             (λ is_there holds. cond plus (input_value nodes self.old.terms is_there holds input)
             (not (input_value nodes self.old.terms is_there holds input))) gate) }
     {

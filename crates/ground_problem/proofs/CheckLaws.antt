@@ -69,3 +69,10 @@ field_in terms [] ks k id d h lt e = absurd (omega arith)
 field_in terms (i ∷ is) [] k id d h lt e = absurd h
 field_in terms (i ∷ is) (n ∷ ks) zero id d h lt e = let same : n ≡ id = cc in let P : ℕ → Type 0 = λ n. IsFieldOf terms i n in subst P same h.0
 field_in terms (i ∷ is) (n ∷ ks) (suc k) id d h lt e = field_in terms is ks k id d h.1 (omega arith) e
+
+-- the functions of inputs are as many
+pub fields_length : (terms : List TermNode) (is : List Input) (ks : List ℕ) → AreFieldsOf terms is ks → length ks ≡ length is
+fields_length terms [] [] h = refl
+fields_length terms [] (k ∷ ks) h = absurd h
+fields_length terms (i ∷ is) [] h = absurd h
+fields_length terms (i ∷ is) (k ∷ ks) h = ap suc (fields_length terms is ks h.1)

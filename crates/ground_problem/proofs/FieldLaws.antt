@@ -10,17 +10,8 @@ use Rattle.ground_instances.specs.declared.input.Value.{Value}
 use Rattle.ground_instances.specs.declared.input.Value.TheVariants.{Term, Literal}
 use Rattle.ground_instances.specs.declared.input.Input.{Input}
 use Rattle.ground_instances.specs.declared.input.Input.TheVariants.{There, Equal, Less, Has, Flag, Present}
-use Rattle.ground_instances.specs.Inputs.{IsInput, IsValue}
-use Rattle.ground_problem.specs.Inputs.{AddsFields, AreFieldsOf, AreInputs, IsFieldAt, IsFieldOf}
-
-inputs_push : (terms : List TermNode) (is : List Input) (i : Input) → AreInputs terms is → IsInput terms i → AreInputs terms (is ++ i ∷ [])
-inputs_push terms [] i h one = (one, tt)
-inputs_push terms (j ∷ is) i h one = (h.0, inputs_push terms is i h.1 one)
-
-pub inputs_next : (terms : List TermNode) (is : List Input) (k : ℕ) (d : Input) → k < length is → AreInputs terms (take k is) → IsInput terms (get_or is k d) → AreInputs terms (take (k + 1) is)
-inputs_next terms is k d within h one =
-    let P : List Input → Type 0 = λ is. AreInputs terms is in
-    subst P (sym (take_more is k d within)) (inputs_push terms (take k is) (get_or is k d) h one)
+use Rattle.ground_instances.specs.Inputs.{AreInputs, IsInput, IsValue}
+use Rattle.ground_problem.specs.Inputs.{AddsFields, AreFieldsOf, IsFieldAt, IsFieldOf}
 
 -- inputs of a list
 pub input_at : (terms : List TermNode) (is : List Input) (k : ℕ) (d : Input) → k < length is → AreInputs terms is → IsInput terms (get_or is k d)

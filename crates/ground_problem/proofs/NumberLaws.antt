@@ -1,7 +1,7 @@
 -- Facts as variables, one after another.
-use Rattle.std.proofs.Common.{◌≡◌, ℕ, zero, suc, ◌+◌, ◌<◌, ◌≤◌, ◌∙◌, sym, ap, subst, List, [], ◌∷◌, ◌++◌, Some, length, get_or, take, append_assoc, append-nil}
+use Rattle.std.proofs.Common.{◌≡◌, ℕ, zero, suc, ◌+◌, ◌<◌, ◌∙◌, sym, ap, subst, List, [], ◌∷◌, ◌++◌, Some, length, get_or, take, append_assoc}
 use Rattle.std.specs.Prelude.{slice_get}
-use Rattle.std.proofs.lemmas.List.{take_all, take_more}
+use Rattle.std.proofs.lemmas.List.{take_more}
 use Rattle.ground_gates.specs.declared.gate.Literal.{Literal}
 use Rattle.ground_problem.specs.declared.facts.FactNode.{FactNode}
 use Rattle.ground_problem.specs.declared.facts.FactLiteral.{FactLiteral}

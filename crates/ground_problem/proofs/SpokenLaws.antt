@@ -24,12 +24,13 @@ use Rattle.ground_instances.specs.declared.input.Input.{Input}
 use Rattle.ground_instances.specs.declared.input.Input.TheVariants.{There, Equal, Less, Has, Flag, Present}
 use Rattle.ground_instances.specs.declared.instantiation.Instances.{Instances}
 use Rattle.ground_instances.specs.GroundAtoms.{GroundAtom, named}
-use Rattle.ground_instances.specs.Inputs.{AreInputsOf, IsInput, IsValue, input_value, value_at}
+use Rattle.ground_instances.specs.Inputs.{AreInputs, AreInputsOf, IsInput, IsValue, input_value, value_at}
 use Rattle.ground_instances.specs.Made.{AreInstancesOf}
 use Rattle.ground_problem.specs.declared.spoken.Spoken.{Spoken}
 use Rattle.ground_problem.specs.declared.words.PairNode.{PairNode}
 use Rattle.ground_problem.specs.declared.words.Words.{Words}
-use Rattle.ground_problem.specs.Inputs.{AreFieldsOf, AreInputs, IsToldInput, pairs_in}
+use Rattle.ground_problem.specs.Inputs.{AreFieldsOf, IsOfSort, IsTermValue, IsToldInput, RelateTerms, RelatesTerms, pairs_in}
+use Rattle.ground_instances.proofs.BoardLaws.{all_later}
 use Rattle.ground_problem.specs.Spoken.{IsSpoken}
 use Rattle.ground_problem.specs.Words.{ArePairs, IsWords, pair_at, vocabulary_at}
 use Rattle.ground_problem.specs.WordsFound.{AreSpokenBy, AreWordsFor, IsTellingFor}
@@ -68,6 +69,7 @@ instances_stay g nodes f ts old new kept ones listed inputs gates root h =
     let all : AreInstancesOf g nodes f ts moved = record {
       there = h.there;
       below = h.below;
+      stand = all_later old.terms new.terms old.inputs kept ones;
       listed = terms_at_kept old.terms new.terms old.listed.items ts kept h.listed;
       reads = λ is_there holds v are. h.reads is_there holds v (inputs_stay nodes old.terms new.terms kept is_there holds old.inputs v ones are);
     } in
@@ -119,6 +121,19 @@ module _ (g : Signature) (v : Vocabulary) (nodes : List Node) (terms : List Term
   pair_related (Flag h a) p t c = Contains-none p c
   pair_related (Present h a) p t c = Contains-none p c
 
+  -- what they relate are terms
+  of_sort : (a : Value) (sort : ℕ) → IsOfSort g v nodes terms a sort → IsTermValue a
+  of_sort (Term id) sort h = tt
+  of_sort (Literal id) sort h = absurd h
+
+  relates : (i : Input) → IsToldInput g v nodes terms i → RelatesTerms i
+  relates (There id) h = tt
+  relates (Equal a b) h = tt
+  relates (Less a b) h = tt
+  relates (Has r a b) (sig, relation, x, y) = (of_sort a sig.from x, of_sort b sig.to y)
+  relates (Flag h a) (sig, function, x, to, told) = of_sort a sig.from x
+  relates (Present h a) (sig, function, x, there) = of_sort a sig.from x
+
 -- what stands whichever formula the instances are of
 module _ (g : Signature) (nodes : List Node) (variables : List Variable) (closed : Bool) (old : Instances) (s : Spoken) (found : AreSpokenBy g nodes variables closed old s.made s.words s.fields.items) where
   related_at : (p : PairNode) → Contains s.words.pairs.items p → IsRelated g (vocabulary_at s.made.terms s.words) nodes s.made.terms p
@@ -129,6 +144,9 @@ module _ (g : Signature) (nodes : List Node) (variables : List Variable) (closed
 
   pub words_stand : IsWords s.made.terms s.words
   words_stand = record { named = found.words.ones; others = found.words.other_ones; pairs = are_pairs s.made.terms s.words.pairs.items (λ p c. (related_at p c).0) }
+
+  pub terms_related : RelateTerms s.made.inputs
+  terms_related i c = let P : List Input → Type 0 = λ is. Contains is i in relates g (vocabulary_at s.made.terms s.words) nodes s.made.terms i (found.words.told i (subst P found.inputs c))
 
   pub fields_stand : AreFieldsOf s.made.terms s.made.inputs s.fields.items
   fields_stand = let P : List Input → Type 0 = λ is. AreFieldsOf s.made.terms is s.fields.items in subst P (sym found.inputs) found.added.stand

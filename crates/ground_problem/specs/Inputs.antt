@@ -18,7 +18,6 @@ use Rattle.ground_instances.specs.declared.input.Value.{Value}
 use Rattle.ground_instances.specs.declared.input.Value.TheVariants.{Term, Literal}
 use Rattle.ground_instances.specs.declared.input.Input.{Input}
 use Rattle.ground_instances.specs.declared.input.Input.TheVariants.{There, Equal, Less, Has, Flag, Present}
-use Rattle.ground_instances.specs.Inputs.{IsInput}
 use Rattle.ground_problem.specs.declared.words.PairNode.{PairNode}
 
 -- what a term of a formula without variables gives
@@ -57,6 +56,23 @@ module _ (g : Signature) (v : Vocabulary) (nodes : List Node) (terms : List Term
   IsToldInput (Flag h a) = (sig : FunSig) × IsFunction g h sig × IsOfSort a sig.from × (sig.to ≡ range.Flag) × IsToldAt h a
   IsToldInput (Present h a) = (sig : FunSig) × IsFunction g h sig × IsOfSort a sig.from × IsToldAt h a
 
+-- the value is a term
+abbrev pub IsTermValue : Value → Type 0
+IsTermValue (Term id) = Unit {0}
+IsTermValue (Literal id) = ⊥
+
+-- what an input says to be related, or to have something by a function, are terms
+abbrev pub RelatesTerms : Input → Type 0
+RelatesTerms (There id) = Unit {0}
+RelatesTerms (Equal a b) = Unit {0}
+RelatesTerms (Less a b) = Unit {0}
+RelatesTerms (Has r a b) = IsTermValue a × IsTermValue b
+RelatesTerms (Flag h a) = IsTermValue a
+RelatesTerms (Present h a) = IsTermValue a
+
+abbrev pub RelateTerms : List Input → Type 0
+RelateTerms inputs = (i : Input) → Contains inputs i → RelatesTerms i
+
 -- the pair that an input speaks of, if it speaks of one
 abbrev pub pair_in : ℕ → Value → Value → List PairNode
 pair_in r (Term a) (Term b) = record { relation = r; holder = a; member = b } ∷ []
@@ -91,11 +107,6 @@ module _ (terms : List TermNode) where
   AreFieldsOf [] (k ∷ ks) = ⊥
   AreFieldsOf (i ∷ is) [] = ⊥
   AreFieldsOf (i ∷ is) (k ∷ ks) = IsFieldOf i k × AreFieldsOf is ks
-
-  -- the numbers in the inputs are those of terms
-  abbrev pub AreInputs : List Input → Type 0
-  AreInputs [] = Unit {0}
-  AreInputs (i ∷ is) = IsInput terms i × AreInputs is
 
 -- the functions of inputs were added
 pub record AddsFields (old new : List TermNode) (inputs : List Input) (fields : List ℕ) : Type 0 where

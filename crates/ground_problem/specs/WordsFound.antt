@@ -12,7 +12,8 @@ use Rattle.ground_instances.specs.declared.input.Input.{Input}
 use Rattle.ground_instances.specs.declared.instantiation.Instances.{Instances}
 use Rattle.ground_problem.specs.declared.telling.Telling.{Telling}
 use Rattle.ground_problem.specs.declared.words.Words.{Words}
-use Rattle.ground_problem.specs.Inputs.{AddsFields, AreInputs, IsToldInput, pairs_in}
+use Rattle.ground_instances.specs.Inputs.{AreInputs}
+use Rattle.ground_problem.specs.Inputs.{AddsFields, IsToldInput, pairs_in}
 use Rattle.ground_problem.specs.Telling.{IsFine, IsTelling, told_so_far}
 use Rattle.ground_problem.specs.Words.{vocabulary_at}
 

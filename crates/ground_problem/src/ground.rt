@@ -3,7 +3,7 @@
 ghost use Rattle.std.specs.Prelude.{◌≡◌, ◌<◌, ◌^◌, ◌++◌, length, map, IfOk, OnOk};
 ghost use Rattle.ground_gates.specs.Clauses.{HaveInputsBelow};
 ghost use Rattle.ground_problem.specs.GroundClauses.{AreGroundClauses};
-ghost use Rattle.ground_problem.specs.Inputs.{AreFieldsOf, IsFieldOf};
+ghost use Rattle.ground_problem.specs.Inputs.{AreFieldsOf, IsFieldOf, RelateTerms, RelatesTerms};
 ghost use Rattle.ground_problem.specs.Facts.{clauses_at, fact_at};
 ghost use Rattle.ground_problem.specs.Ground.{AreVariablesOf};
 ghost use Rattle.ground_problem.specs.Numbers.{KeepsFacts, Zips};
@@ -47,7 +47,8 @@ fn variables_of(
     field: u32,
     numbering: &mut Numbering,
 ) -> Result<Vec<u32>, AllocError>
-    requires { IsFieldOf source.terms.now input field }
+    requires field { IsFieldOf source.terms.now input field }
+    requires terms { RelatesTerms input }
     ensures kept { OnOk result (KeepsFacts numbering.old numbering.new) }
     ensures are { IfOk result (λ xs. AreVariablesOf source.entry.arena.now source.entry.terms.now
         numbering.new.facts.keys xs.items input) }
@@ -64,20 +65,16 @@ fn all_variables(
     fields: &[u32],
     numbering: &mut Numbering,
 ) -> Result<Vec<Vec<u32>>, AllocError>
-    requires { AreFieldsOf source.terms.now inputs.now fields.now }
+    requires fields { AreFieldsOf source.terms.now inputs.now fields.now }
+    requires terms { RelateTerms inputs.now }
     ensures kept { OnOk result (KeepsFacts numbering.old numbering.new) }
     ensures are { IfOk result (λ all. Zips (λ xs input. AreVariablesOf source.entry.arena.now
         source.entry.terms.now numbering.new.facts.keys xs.items input) all.items inputs.now) }
 {
     let mut all = Vec::new(alloc);
     for k in 0..inputs.len() {
-        match fields.get(k) {
-            Some(field) => {
-                let variables = variables_of(alloc, source, inputs[k], *field, numbering)?;
-                all.push(variables)?;
-            }
-            None => return Err(AllocError),
-        }
+        let variables = variables_of(alloc, source, inputs[k], fields[k], numbering)?;
+        all.push(variables)?;
     }
     Ok(all)
 }
@@ -92,6 +89,7 @@ pub fn ground_clauses(
 ) -> Result<GroundClauses, AllocError>
     requires fields { AreFieldsOf spoken.now.made.terms spoken.now.made.inputs
         spoken.now.fields.items }
+    requires terms { RelateTerms spoken.now.made.inputs }
     requires below { HaveInputsBelow (length spoken.now.made.inputs) spoken.now.made.gates }
     requires there { spoken.now.made.root < length spoken.now.made.gates }
     ensures { IfOk result (λ ground. AreGroundClauses

@@ -3,7 +3,7 @@
 ghost use Rattle.std.specs.Prelude.{◌≡◌, ◌++◌, ◌∷◌, [], map, IfOk, OnOk, Some};
 ghost use Rattle.form_tables.specs.Facts.{there_of};
 ghost use Rattle.ground_problem.specs.InputFacts.{input_facts};
-ghost use Rattle.ground_problem.specs.Inputs.{IsFieldOf};
+ghost use Rattle.ground_problem.specs.Inputs.{IsFieldOf, RelatesTerms};
 ghost use Rattle.ground_problem.specs.Facts.{fact_at, noun_at};
 
 use crate::PairNode;
@@ -54,8 +54,7 @@ fn facts_of_two(
 }
 
 /// The facts that together say that what an input stands for is so. The function at a value of
-/// which it speaks, if it speaks of one, has this number. An input that speaks of a literal where a
-/// term should be, of which instances have none, counts as memory that is not there.
+/// which it speaks, if it speaks of one, has this number.
 pub(crate) fn facts_of(
     alloc: Global,
     arena: &Arena,
@@ -63,7 +62,8 @@ pub(crate) fn facts_of(
     input: Input,
     field: u32,
 ) -> Result<Vec<FactNode>, AllocError>
-    requires { IsFieldOf terms.now input field }
+    requires field { IsFieldOf terms.now input field }
+    requires terms { RelatesTerms input }
     ensures { IfOk result (λ facts. input_facts arena.now terms.now input
         ≡ Some (map (fact_at arena.now terms.now) facts.items)) }
 {
@@ -83,6 +83,6 @@ pub(crate) fn facts_of(
             Ok(vec![in alloc; FactNode::There(field), FactNode::Raised(field)]?)
         }
         Input::Present(_, Value::Term(_)) => Ok(vec![in alloc; FactNode::There(field)]?),
-        Input::Has(..) | Input::Flag(..) | Input::Present(..) => Err(AllocError),
+        Input::Has(..) | Input::Flag(..) | Input::Present(..) => unreachable!(),
     }
 }

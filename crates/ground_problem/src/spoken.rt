@@ -9,14 +9,15 @@ ghost use Rattle.form_terms.specs.Universe.{variables_of};
 ghost use Rattle.ground_terms.specs.Variables.{variable_at};
 ghost use Rattle.form_tables.specs.Vocabulary.{AreFormed};
 ghost use Rattle.ground_instances.specs.Made.{AreInstancesOf};
-ghost use Rattle.ground_problem.specs.Inputs.{AreFieldsOf};
+ghost use Rattle.ground_instances.specs.Inputs.{AreInputs};
+ghost use Rattle.ground_problem.specs.Inputs.{AreFieldsOf, RelateTerms};
 ghost use Rattle.ground_problem.specs.Spoken.{IsSpoken};
 ghost use Rattle.ground_problem.specs.Words.{IsWords};
 ghost use Rattle.ground_problem.specs.Telling.{AreListedMarks};
 ghost use Rattle.ground_problem.specs.WordsFound.{AreSpokenBy, AreWordsFor, IsTellingFor};
 
 use crate::checks::Check;
-use crate::fields::{are_inputs, fields_of};
+use crate::fields::fields_of;
 use crate::pairs::pairs_of;
 use crate::telling::{Source, Standing, Telling, tell};
 use crate::words::{PairNode, Words};
@@ -147,12 +148,10 @@ fn spoken_words(
     made: &mut Instances,
     closed: bool,
 ) -> Result<(Words, Vec<u32>), AllocError>
+    requires { AreInputs made.old.terms made.old.inputs }
     ensures { IfOk result (λ found. AreSpokenBy signature.now arena.now variables.now closed
         made.old made.new found.0 found.1.items) }
 {
-    if !are_inputs(&made.terms, made.inputs.as_slice()) {
-        return Err(AllocError);
-    }
     let fields = fields_of(alloc, &mut made.terms, made.inputs.as_slice())?;
     let marks = marks_of(alloc, made.terms.len(), made.listed.as_slice())?;
     let source = Source {
@@ -187,9 +186,11 @@ pub fn vocabulary_of(
     made: Instances,
     closed: bool,
 ) -> Result<Spoken, AllocError>
+    requires { AreInputs made.terms made.inputs }
     ensures words { IfOk result (λ spoken. IsWords spoken.made.terms spoken.words) }
     ensures fields { IfOk result (λ spoken. AreFieldsOf spoken.made.terms spoken.made.inputs
         spoken.fields.items) }
+    ensures terms { IfOk result (λ spoken. RelateTerms spoken.made.inputs) }
     ensures spoken { IfOk result (λ spoken. (f : Formula) (ts : List GroundTerm) →
         IsOver signature.now [] f → AreFormed signature.now f ts →
         map variable_at variables.now ≡ variables_of signature.now f →

@@ -14,11 +14,11 @@ use Rattle.decide_search.proofs.search.find_table.Goals as goal
 
 pub returns-in-None-clause-none : goal.returns-in-None-clause-none
 returns-in-None-clause-none c = λ same.
-    c.in_ok-table_for.ensures.none c.in-None.is (formula_of c.args.arena.now c.args.id) (terms_in c.args.terms) c.args.closed c.requires.over c.requires.normal c.in_ok-spoken.ensures
+    c.in_ok-table_for.ensures.none c.in-None.is (formula_of c.args.arena.now c.args.id) (terms_in c.args.terms) c.args.closed c.requires.over c.requires.normal c.in_ok-spoken.ensures.spoken
 
 pub returns-in-Some-clause-some : goal.returns-in-Some-clause-some
 returns-in-Some-clause-some c =
-    let is = c.in_ok-spoken.ensures in
+    let is = c.in_ok-spoken.ensures.spoken in
     let P : Option Found → Type 0 = λ o. IfSome o (λ found. (f : Formula) → (terms : List GroundTerm) → (closed : Bool) → IsOver c.args.signature.now [] f → IsNormal f
     → IsSpoken c.args.signature.now c.args.arena.now f terms closed c.in_ok-spoken.spoken → HasTable c.args.signature.now f terms c.in_ok-spoken.spoken found) in
     tabled_by c.args.signature.now c.args.arena.now (formula_of c.args.arena.now c.args.id) (terms_in c.args.terms) c.args.closed c.in_ok-spoken.spoken c.in-Some.found c.tabled.result is

@@ -49,10 +49,11 @@ seek-requires-clause-ready c =
     let m1 = record w { board = record w.board { terms = added } } in
     ready_later g nodes s.shapes.now s.listed.now w m1 (grows_terms w.board m1.board ext refl refl) refl refl c.requires.ready
 
+pub input-requires : goal.input-requires
+input-requires c = one_kept c.add.new.self _ c.in_ok-t.t c.in_ok-body.ensures.grows.terms c.in_ok-t.ensures.made.kind
+
 pub join_both-requires-clause-left : goal.join_both-requires-clause-left
-join_both-requires-clause-left c =
-    let nodes = c.args.source.arena.now in
-    (c.in_ok-there.ensures.means nodes (one_kept c.add.new.self _ c.in_ok-t.t c.in_ok-body.ensures.grows.terms c.in_ok-t.ensures.made.kind)).within
+join_both-requires-clause-left c = (c.in_ok-there.ensures.means c.args.source.arena.now).within
 
 pub returns : goal.returns
 returns c =
@@ -69,9 +70,8 @@ returns c =
     let m1 = record w { board = record w.board { terms = added } } in
     let m2 = c.seek.new.self in
     let m3 = record m2 { board = c.input.new.self } in
-    let fits = one_kept added m2.board.terms c.in_ok-t.t c.in_ok-body.ensures.grows.terms made.kind in
     exists_gate g nodes s.shapes.now s.listed.now w m1 m2 m3 _ c.args.above.variables.now c.as_slice.result.now c.args.above.arguments.now c.args.above.number c.in_ok-number_after.field-0 c.in_ok-t.t c.in_ok-there.there
     (skolem c.args.above.number c.args.sort (from_list (terms_at w.board.terms c.args.above.arguments.now))) (formula_of nodes c.args.a) c.in_ok-body.body c.in_ok-gate.gate c.requires.ready c.requires.variables c.requires.arguments
     c.in_ok-number_after.ensures long (grows_terms w.board m1.board ext refl refl) made.kind
     (skolem_is g nodes s.shapes.now s.listed.now w.board.terms listed added c.args.above.arguments.now c.in_ok-arguments.arguments c.args.above.number c.args.sort c.in_ok-t.t c.in_ok-arguments.ensures made)
-    c.in_ok-body.ensures c.in_ok-there.ensures.grows (c.in_ok-there.ensures.means nodes fits) refl refl c.in_ok-gate.ensures refl refl
+    c.in_ok-body.ensures c.in_ok-there.ensures.grows (c.in_ok-there.ensures.means nodes) refl refl c.in_ok-gate.ensures refl refl

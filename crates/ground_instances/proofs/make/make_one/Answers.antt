@@ -21,9 +21,11 @@ seek-requires-clause-arguments c =
     let A : List ℕ → Type 0 = λ ids. AreOnes w.board.terms ids in
     subst A (sym others) (ones_append w.board.terms c.args.above.arguments.now (c.args.t ∷ []) c.requires.arguments (c.requires.term, tt))
 
+pub input-requires : goal.input-requires
+input-requires c = one_kept c.args.work.now.board.terms _ c.args.t c.in_ok-body.ensures.grows.terms c.requires.term
+
 pub join_either-requires-clause-left : goal.join_either-requires-clause-left
-join_either-requires-clause-left c =
-    (c.in_ok-absent.ensures.means c.args.source.arena.now (one_kept c.args.work.now.board.terms _ c.args.t c.in_ok-body.ensures.grows.terms c.requires.term)).within
+join_either-requires-clause-left c = (c.in_ok-absent.ensures.means c.args.source.arena.now).within
 
 pub returns : goal.returns
 returns c =
@@ -37,7 +39,6 @@ returns c =
     c.as_slice-2.ensures.value ∙ (c.in_ok-push-2.ensures.items ∙ ap (λ (xs : List ℕ). xs ++ c.args.t ∷ []) c.in_ok-arguments.ensures.items) in
     let m2 = c.seek.new.self in
     let m3 = record m2 { board = c.input.new.self } in
-    let fits = one_kept w.board.terms m2.board.terms c.args.t c.in_ok-body.ensures.grows.terms c.requires.term in
     one_gate g nodes s.shapes.now s.listed.now w m2 m3 _ c.args.above.variables.now c.args.above.arguments.now c.as_slice.result.now c.as_slice-2.result.now c.args.above.number c.args.t c.in_ok-absent.absent
     (formula_of nodes c.args.a) c.in_ok-body.body c.in_ok-gate.gate c.requires.ready c.requires.variables c.requires.arguments c.requires.term long others c.in_ok-body.ensures c.in_ok-absent.ensures.grows
-    (c.in_ok-absent.ensures.means nodes fits) refl refl c.in_ok-gate.ensures refl refl
+    (c.in_ok-absent.ensures.means nodes) refl refl c.in_ok-gate.ensures refl refl

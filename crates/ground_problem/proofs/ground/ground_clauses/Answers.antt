@@ -1,6 +1,11 @@
-use Rattle.std.proofs.Common.{◌∙◌}
+use Rattle.std.proofs.Common.{List, subst, sym, ◌∙◌}
+use Rattle.ground_instances.specs.declared.input.Input.{Input}
+use Rattle.ground_problem.specs.Inputs.{RelateTerms}
 use Rattle.ground_problem.proofs.GroundLaws.{all_ground, inputs_below, variables_below}
 use Rattle.ground_problem.proofs.ground.ground_clauses.Goals as goal
+
+pub all_variables-requires-clause-terms : goal.all_variables-requires-clause-terms
+all_variables-requires-clause-terms c = let P : List Input → Type 0 = λ is. RelateTerms is in subst P (sym c.as_slice-inputs.ensures) c.requires.terms
 
 pub encode-requires-clause-below : goal.encode-requires-clause-below
 encode-requires-clause-below c =
