@@ -9,7 +9,7 @@ ghost use Rattle.type_schema.specs.SchemaViews.{schema_of};
 ghost use Rattle.type_schema.specs.Views.{init_of, policy_of};
 ghost use Rattle.duty_meaning.specs.Sizes.{init_size, policy_size};
 ghost use Rattle.type_typing.specs.Outcome.{Gives};
-ghost use Rattle.type_specs.specs.InTurn.{GivesSeen};
+ghost use Rattle.type_specs.specs.InTurn.{GivesSeen, seen_as};
 ghost use Rattle.type_specs.specs.Sizes as spec;
 ghost use Rattle.type_commands.specs.Commands as rule;
 ghost use Rattle.type_scripts.specs.Counted.{counted};
@@ -36,7 +36,7 @@ fn is_small(size: u32, at: u32) -> Result<(), TypeErr>
 /// The size is within the limit, at the next of the places; gives those that are left.
 #[tactic(auto, unfolding(crate::specs::Counting::counted_at))]
 fn next_is_small(size: u32, places: &[u32]) -> Result<&[u32], TypeErr>
-    ensures { GivesSeen (λ left. left.now) (counted_at (size ∷ []) places.now) result }
+    ensures { seen_as (λ left. left.now) result ≡ counted_at (size ∷ []) places.now }
 {
     match places {
         [] => Ok(places),
@@ -50,6 +50,7 @@ fn next_is_small(size: u32, places: &[u32]) -> Result<&[u32], TypeErr>
 /// Each of these takes the places that are next, and gives those that are left.
 impl Sizes<'_> {
     /// A policy is small.
+    #[tactic(auto, using(type_specs::proofs::Seen::seen_gives))]
     fn small_policy<'p>(
         &self,
         alloc: Global,
@@ -65,6 +66,7 @@ impl Sizes<'_> {
     }
 
     /// An initialiser of a field of the type is small.
+    #[tactic(auto, using(type_specs::proofs::Seen::seen_gives))]
     fn small_init<'p>(
         &self,
         alloc: Global,

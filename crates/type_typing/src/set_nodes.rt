@@ -35,9 +35,8 @@ pub fn everyone(alloc: Global, content: Content, word: u32) -> Result<Boxed<TSet
 
 /// A chain of records, where this content is asked.
 pub fn chain(schema: &Schema, content: Content, of: Source) -> Result<Boxed<TSet>, TypeErr>
-    ensures { Gives
-        (and_then (spec.may_hold (plain_of schema.now) content of.model of.at) (λ _. Ok of.set))
-        result }
+    ensures { result
+        ≡ and_then (spec.may_hold (plain_of schema.now) content of.model of.at) (λ _. Ok of.set) }
 {
     may_hold(schema, content, of.model, of.at)?;
     let Source { set, .. } = of;

@@ -1,6 +1,6 @@
 //! The variables that an expression may use.
 
-ghost use Rattle.std.specs.Prelude.{◌≡◌, IfOk, position};
+ghost use Rattle.std.specs.Prelude.{◌≡◌, ◌≤◌, ◌^◌, IfOk, length, position};
 ghost use Rattle.std.specs.List.{list_any};
 ghost use Rattle.std.specs.Str.{bytes_eq};
 ghost use Rattle.type_typing.specs.Names.{var_named};
@@ -31,10 +31,13 @@ fn depth_of(vars: &[Var], name: &[u8]) -> Option<usize>
     vars.iter().position(|v| same_name(v.name.bytes(), name))
 }
 
-/// The depth and the type of the variable of that name.
+/// The depth and the type of the variable of that name. A depth that passes 32 bits counts as
+/// memory that is not there; with no more than 2^32 variables none does.
 #[tactic(auto, unfolding(crate::specs::Names::var_named))]
 pub fn var_named(vars: &[Var], x: &Named) -> Result<(u32, TTy), TypeErr>
-    ensures { Gives (or_else (var_named vars.now x.now.name) (Unknown x.now.at)) result }
+    ensures gives { Gives (or_else (var_named vars.now x.now.name) (Unknown x.now.at)) result }
+    ensures exact { length vars.now ≤ 2 ^ 32 →
+        result ≡ or_else (var_named vars.now x.now.name) (Unknown x.now.at) }
 {
     let Some(depth) = depth_of(vars, x.name.bytes()) else {
         return Err(TypeErr::Unknown { at: x.at });
@@ -42,7 +45,6 @@ pub fn var_named(vars: &[Var], x: &Named) -> Result<(u32, TTy), TypeErr>
     let Some(v) = at(vars, depth) else {
         return Err(TypeErr::Unknown { at: x.at });
     };
-    // A tree with more variables than this does not fit in memory.
     let Ok(depth) = u32::try_from(depth) else {
         return Err(TypeErr::OutOfMemory);
     };

@@ -262,7 +262,7 @@ typed_set-returns-in_err-of-in-Find t c =
 
 pub typed_set-returns-in_ok-of-in-Find : goal.typed_set-returns-in_ok-of-in-Find
 typed_set-returns-in_ok-of-in-Find t c =
-    set_step.SetFind_last (plain_of c.args.schema.now) c.args.vars.now c.args.content c.in-Find.field-1 c.in-Find.field-2 c.in-Find.field-0 c.args.set.now c.in_ok-of-in-Find.of c.chain.result c.in-Find.is (cc c.in_ok-of-in-Find.ensures) c.chain.ensures
+    set_step.SetFind_last (plain_of c.args.schema.now) c.args.vars.now c.args.content c.in-Find.field-1 c.in-Find.field-2 c.in-Find.field-0 c.args.set.now c.in_ok-of-in-Find.of c.chain.result c.in-Find.is (cc c.in_ok-of-in-Find.ensures) (step.is_given _ _ c.chain.ensures)
 
 pub typed_set-returns-in_err-of-in-Path : goal.typed_set-returns-in_err-of-in-Path
 typed_set-returns-in_err-of-in-Path t c =
@@ -272,7 +272,7 @@ typed_set-returns-in_err-of-in-Path t c =
 
 pub typed_set-returns-in_ok-of-in-Path : goal.typed_set-returns-in_ok-of-in-Path
 typed_set-returns-in_ok-of-in-Path t c =
-    set_step.SetPath_last (plain_of c.args.schema.now) c.args.vars.now c.args.content c.in-Path.field-1 c.in-Path.field-0 c.args.set.now c.in_ok-of-in-Path.of c.chain-in-Path.result c.in-Path.is (cc c.in_ok-of-in-Path.ensures) c.chain-in-Path.ensures
+    set_step.SetPath_last (plain_of c.args.schema.now) c.args.vars.now c.args.content c.in-Path.field-1 c.in-Path.field-0 c.args.set.now c.in_ok-of-in-Path.of c.chain-in-Path.result c.in-Path.is (cc c.in_ok-of-in-Path.ensures) (step.is_given _ _ c.chain-in-Path.ensures)
 
 pub typed_set-returns-in_err-of-in-MapS : goal.typed_set-returns-in_err-of-in-MapS
 typed_set-returns-in_err-of-in-MapS t c =
@@ -282,7 +282,7 @@ typed_set-returns-in_err-of-in-MapS t c =
 
 pub typed_set-returns-in_ok-of-in-MapS : goal.typed_set-returns-in_ok-of-in-MapS
 typed_set-returns-in_ok-of-in-MapS t c =
-    set_step.SetMapS_last (plain_of c.args.schema.now) c.args.vars.now c.args.content c.in-MapS.field-1 c.in-MapS.field-2 c.in-MapS.field-3 c.in-MapS.field-0 c.args.set.now c.in_ok-of-in-MapS.of c.chain-in-MapS.result c.in-MapS.is (cc c.in_ok-of-in-MapS.ensures) c.chain-in-MapS.ensures
+    set_step.SetMapS_last (plain_of c.args.schema.now) c.args.vars.now c.args.content c.in-MapS.field-1 c.in-MapS.field-2 c.in-MapS.field-3 c.in-MapS.field-0 c.args.set.now c.in_ok-of-in-MapS.of c.chain-in-MapS.result c.in-MapS.is (cc c.in_ok-of-in-MapS.ensures) (step.is_given _ _ c.chain-in-MapS.ensures)
 
 pub typed_set-returns-in_err-over-in-FlatS : goal.typed_set-returns-in_err-over-in-FlatS
 typed_set-returns-in_err-over-in-FlatS t c =
