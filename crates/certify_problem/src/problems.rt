@@ -9,7 +9,7 @@ ghost use Rattle.form_tables.specs.Vocabulary.{AreFormed};
 ghost use Rattle.form_terms.specs.GroundTerms.{GroundTerm};
 ghost use Rattle.ground_gates.specs.Clauses.{HaveInputsBelow};
 ghost use Rattle.ground_terms.specs.TermLists.{terms_in};
-ghost use Rattle.ground_problem.specs.Inputs.{AreFieldsOf};
+ghost use Rattle.ground_problem.specs.Inputs.{AreFieldsOf, RelateTerms};
 ghost use Rattle.ground_problem.specs.Spoken.{IsSpoken};
 ghost use Rattle.ground_problem.specs.Words.{IsWords};
 ghost use Rattle.certify_problem.specs.Making.{AreMadeOf, IsMadeOf};
@@ -38,8 +38,9 @@ fn spoken_of(
     requires formula { IsFormula arena.now id }
     requires over { IsOver signature.now [] (formula_of arena.now id) }
     requires formed { AreFormed signature.now (formula_of arena.now id) (terms_in terms) }
-    ensures { IfOk result (IsSpoken signature.now arena.now (formula_of arena.now id)
+    ensures spoken { IfOk result (IsSpoken signature.now arena.now (formula_of arena.now id)
         (terms_in terms) closed) }
+    ensures relate { IfOk result (λ spoken. RelateTerms spoken.made.inputs) }
 {
     let variables = variables_of(alloc, arena, id)?;
     let made = instantiate(alloc, arena, id, signature, terms)?;
@@ -55,6 +56,7 @@ fn facts_of(
 ) -> Result<Vec<FactNode>, AllocError>
     requires fields { AreFieldsOf spoken.now.made.terms spoken.now.made.inputs
         spoken.now.fields.items }
+    requires relate { RelateTerms spoken.now.made.inputs }
     requires below { HaveInputsBelow (length spoken.now.made.inputs) spoken.now.made.gates }
     requires there { spoken.now.made.root < length spoken.now.made.gates }
 {
@@ -101,6 +103,7 @@ fn made_with(
 ) -> Result<ListedClauses, AllocError>
     requires fields { AreFieldsOf spoken.now.made.terms spoken.now.made.inputs
         spoken.now.fields.items }
+    requires relate { RelateTerms spoken.now.made.inputs }
     requires below { HaveInputsBelow (length spoken.now.made.inputs) spoken.now.made.gates }
     requires there { spoken.now.made.root < length spoken.now.made.gates }
     requires terms { reader.terms.now ≡ spoken.now.made.terms }
@@ -125,6 +128,7 @@ fn made_for(
     requires words { IsWords spoken.now.made.terms spoken.now.words }
     requires fields { AreFieldsOf spoken.now.made.terms spoken.now.made.inputs
         spoken.now.fields.items }
+    requires relate { RelateTerms spoken.now.made.inputs }
     requires below { HaveInputsBelow (length spoken.now.made.inputs) spoken.now.made.gates }
     requires there { spoken.now.made.root < length spoken.now.made.gates }
     ensures { IfOk result (λ c. (f : Formula) (terms : List GroundTerm) (closed : Bool) →

@@ -5,8 +5,8 @@ use Rattle.ground_terms.specs.TermLists.{terms_in}
 use Rattle.certify_problem.proofs.Lists.{ok_too}
 use Rattle.certify_problem.proofs.problems.spoken_of.Goals as goal
 
-pub returns : goal.returns
-returns c =
+pub returns-clause-spoken : goal.returns-clause-spoken
+returns-clause-spoken c =
     ok_too c.vocabulary_of.result _ _
     (λ spoken h.
     h (formula_of c.args.arena.now c.args.id) (terms_in c.args.terms) c.requires.over c.requires.formed
