@@ -214,8 +214,8 @@ fn held_ids(
     records(alloc, m, ids(held.get()))
 }
 
-/// The principals of a set.
 // Long, since each form of a set has its own arm.
+/// The principals of a set.
 #[cycle(gathering)]
 pub(crate) fn gather(
     alloc: Global,

@@ -116,8 +116,8 @@ fn record_of(database: &Database, m: ModelNo, who: Principal) -> Option<&Record>
     }
 }
 
-/// The value of an expression.
 // Long, since each form of an expression has its own arm.
+/// The value of an expression.
 #[cycle(meaning)]
 pub(crate) fn value<'d>(
     alloc: Global,
@@ -213,8 +213,8 @@ pub(crate) fn truth_at(
     Ok(truth(v.get()))
 }
 
-/// Whether a principal, or a record, is in a set.
 // Long, since each form of a set has its own arm.
+/// Whether a principal, or a record, is in a set.
 #[cycle(meaning)]
 pub(crate) fn holds(
     alloc: Global,
@@ -423,8 +423,8 @@ fn holds_with(
     holds(alloc, database, set, env.as_slice(), who)
 }
 
-/// Whether the principal is the record of the model that the expression names at one of the ids.
 // Six beside the allocator: an expression where it stands, the ids, and who is compared.
+/// Whether the principal is the record of the model that the expression names at one of the ids.
 #[cycle(meaning)]
 fn maps_to(
     alloc: Global,

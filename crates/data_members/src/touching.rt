@@ -80,8 +80,8 @@ fn touch_field(
     Ok(())
 }
 
-/// Adds the cells that the value of an expression is read from.
 // Long, since each form of an expression has its own arm.
+/// Adds the cells that the value of an expression is read from.
 #[cycle(touching)]
 pub(crate) fn touch(
     alloc: Global,
@@ -153,8 +153,8 @@ pub(crate) fn touch(
     }
 }
 
-/// Adds the cells that who is in a set is read from.
 // Long, since each form of a set has its own arm.
+/// Adds the cells that who is in a set is read from.
 #[cycle(touching)]
 pub(crate) fn touch_set(
     alloc: Global,

@@ -22,12 +22,12 @@ use ground_terms::TermArena;
 use sqlite_items::Items;
 use std::alloc::{AllocError, Global};
 
+// Six beside the allocator: a formula over a signature, its terms, its words, and what was found.
 /// Makes the structure that a table stands for, from what was found of numbered terms, and the
 /// elements of the variables of the `exists` that a formula begins with.
 ///
 /// The terms name what a vocabulary of the formula speaks of. Each sort has the elements that its
 /// terms name, one where it has none and is not empty.
-// Six beside the allocator: a formula over a signature, its terms, its words, and what was found.
 pub fn make_structure(
     alloc: Global,
     arena: &Arena,

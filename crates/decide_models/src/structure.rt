@@ -23,9 +23,9 @@ fn told_terms(alloc: Global, words: &Words) -> Result<Vec<u32>, AllocError>
     Ok(told)
 }
 
+// Six beside the allocator: what was found of which terms, and the two lists made of it.
 /// The structure of what was found, where the terms of each sort have these numbers and name these
 /// elements.
-// Six beside the allocator: what was found of which terms, and the two lists made of it.
 pub(crate) fn structure_from(
     alloc: Global,
     signature: &Signature,

@@ -129,6 +129,7 @@ fn procedures(
     Pair::new(alloc, equality, order, capacity)
 }
 
+// The parameters are the solver's problem, and the terms and numbers that both procedures are over.
 /// Searches for an assignment that meets each clause and whose equalities and differences have a
 /// model; None exactly where there is none. These values are tried first, but for variables that
 /// are equalities or differences.
@@ -136,7 +137,6 @@ fn procedures(
 /// The terms are numbers below `terms`, of which those in `fixed` are pairwise different, and those
 /// of differences numbers below `numbers`, of which 0 is zero. `atoms` has one entry for each of
 /// the variables. Of these and of the clauses there are fewer than `TOO_MANY` of solve_solver.
-// The parameters are the solver's problem, and the terms and numbers that both procedures are over.
 pub fn search_mixed(
     alloc: Global,
     vars: u32,

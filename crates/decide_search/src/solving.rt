@@ -71,9 +71,9 @@ fn few_variables(vars: u32, halves: &[FactNode]) -> Result<u32, AllocError>
     Ok(count as u32)
 }
 
+// Six beside the allocator: the solver's problem, and how many terms and texts it is over.
 /// Searches for an assignment that meets clauses whose equalities and differences have a model,
 /// where so many terms are followed by texts, which are pairwise different.
-// Six beside the allocator: the solver's problem, and how many terms and texts it is over.
 fn search_checked(
     alloc: Global,
     terms: u32,
@@ -184,8 +184,8 @@ fn values_first(alloc: Global, facts: &[FactNode]) -> Result<Vec<PLit>, AllocErr
     Ok(values)
 }
 
-/// Searches for values that meet clauses, by the halves of equalities of numbers.
 // Six beside the allocator: what is read, and four lists of which the solver's problem is made.
+/// Searches for values that meet clauses, by the halves of equalities of numbers.
 fn solve_with(
     alloc: Global,
     reader: Reader<'_>,

@@ -43,8 +43,8 @@ fn try_structure(
     }
 }
 
-/// Leaves out elements of a sort, as often as that may be tried.
 // Six beside the allocator: a formula, what was found, the sort, and how much may be tried.
+/// Leaves out elements of a sort, as often as that may be tried.
 fn smaller_sort(
     alloc: Global,
     signature: &Signature,

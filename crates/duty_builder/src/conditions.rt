@@ -51,8 +51,8 @@ pub(crate) fn holds(
     }
 }
 
-/// Writes whether the truth value of an expression is as the sign says.
 // Long, since each form of an expression has its own arm.
+/// Writes whether the truth value of an expression is as the sign says.
 #[cycle(formulas)]
 pub(crate) fn condition(
     w: &mut Writer,

@@ -131,8 +131,8 @@ fn end_term(
     }
 }
 
-/// Writes what is asked of a term.
 // Long, since each thing that is asked has its own arm.
+/// Writes what is asked of a term.
 #[cycle(formulas)]
 fn at_term(
     w: &mut Writer,

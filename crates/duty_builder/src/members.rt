@@ -27,8 +27,8 @@ use crate::walking::{get, walk};
 use duty_writer::{MakeErr, Term, Writer};
 use type_schema::{ModelNo, TExpr, TItem, TSet};
 
-/// Writes whether who is asked about is in a set.
 // Long, since each form of a set has its own arm.
+/// Writes whether who is asked about is in a set.
 #[cycle(formulas)]
 pub(crate) fn member(
     w: &mut Writer,

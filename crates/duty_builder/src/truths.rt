@@ -45,8 +45,8 @@ pub(crate) fn is_truth_at(
     }
 }
 
-/// Whether the first end of an expression, after the steps, is a truth value.
 // Long, since each form of an expression has its own arm.
+/// Whether the first end of an expression, after the steps, is a truth value.
 #[cycle(first)]
 fn first(
     start: &Start<'_>,

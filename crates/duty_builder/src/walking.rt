@@ -49,8 +49,8 @@ pub(crate) fn ask(
     }
 }
 
-/// Asks of each end of an expression, after the steps.
 // Long, since each form of an expression has its own arm.
+/// Asks of each end of an expression, after the steps.
 #[cycle(formulas)]
 pub(crate) fn walk(
     w: &mut Writer,
@@ -223,8 +223,8 @@ pub(crate) fn get(
     }
 }
 
-/// Asks of each end of what a field holds at a term, after the steps.
 // Long, since a field is written out, kept or gone along.
+/// Asks of each end of what a field holds at a term, after the steps.
 #[cycle(formulas)]
 fn field(
     w: &mut Writer,

@@ -36,8 +36,8 @@ fn in_text<'a>(left: &'a TExpr, right: &'a TExpr, op: CmpOp) -> (&'a TExpr, &'a 
     }
 }
 
-/// Puts the uses in an expression last: inner before outer ones, left before right.
 // Long, since each form of an expression has its own arm.
+/// Puts the uses in an expression last: inner before outer ones, left before right.
 #[cycle(uses)]
 fn add_expr(uses: &mut Vec<Use>, e: &TExpr) -> Result<(), AllocError>
     ensures { OnOk result (map use_data uses.new.items

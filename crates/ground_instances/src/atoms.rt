@@ -33,9 +33,9 @@ fn values_of(
     Ok((left, right))
 }
 
+// Long, since each form of an atom has its own arm.
 /// The input that says whether a formula holds where the variables above are these ground terms, if
 /// the formula is an atom.
-// Long, since each form of an atom has its own arm.
 pub(crate) fn input_of(
     alloc: Global,
     arena: &Arena,

@@ -90,9 +90,9 @@ fn push_with(
     Ok(())
 }
 
+// Six beside the allocator: what is read, a term and its two parts, the other one, and the clauses.
 /// Puts the clause that a function is there at a term, if it is there at another that is the same,
 /// at the end.
-// Six beside the allocator: what is read, a term and its two parts, the other one, and the clauses.
 fn push_alike_field(
     alloc: Global,
     source: Source<'_>,
@@ -142,8 +142,8 @@ pub(crate) fn push_alike(
     }
 }
 
-/// Puts the clause that a function names one element at terms that are the same at the end.
 // Six beside the allocator: what is read, a term and its two parts, the other one, and the clauses.
+/// Puts the clause that a function names one element at terms that are the same at the end.
 fn push_element_field(
     alloc: Global,
     source: Source<'_>,
@@ -172,9 +172,9 @@ fn push_element_field(
     }
 }
 
+// Six beside the allocator: what is read, two terms and their lists, and the clauses.
 /// Puts the two clauses that a variable is there at terms and names one element, where it is there
 /// at others that are the same, at the end.
-// Six beside the allocator: what is read, two terms and their lists, and the clauses.
 fn push_two_variables(
     alloc: Global,
     source: Source<'_>,
@@ -284,8 +284,8 @@ fn push_values(
     }
 }
 
-/// Puts the clause that a function has one value at terms that are the same at the end.
 // Six beside the allocator: what is read, a term and its two parts, the other one, and the clauses.
+/// Puts the clause that a function has one value at terms that are the same at the end.
 fn push_value_field(
     alloc: Global,
     source: Source<'_>,

@@ -100,8 +100,8 @@ pub(crate) fn push_reversed(items: Vec<u32>, list: &mut Vec<u32>) -> Result<(), 
     Ok(())
 }
 
-/// Lists the record terms of a term whose innermost part has this name, the outermost first.
 // Six beside the allocator: a term where it stands, its name, and the terms and the list that grow.
+/// Lists the record terms of a term whose innermost part has this name, the outermost first.
 fn list_named(
     alloc: Global,
     arena: &Arena,

@@ -180,8 +180,8 @@ fn list_parts(
     Ok(())
 }
 
-/// What one round of applying gives from some terms.
 // Six beside the allocator: a round reads a signature and four lists, and adds to the terms.
+/// What one round of applying gives from some terms.
 pub(crate) fn next_round(
     alloc: Global,
     signature: &Signature,

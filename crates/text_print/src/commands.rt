@@ -123,8 +123,8 @@ impl Printer {
         Ok(())
     }
 
-    /// Writes a command.
     // Long, since each command has its own arm.
+    /// Writes a command.
     fn command(&mut self, command: &Command) -> Result<(), AllocError>
         ensures { OnOk result (self.new ≡ self.old ++ text_of_marks (spelled_command command.now)) }
     {

@@ -82,8 +82,8 @@ impl Printer {
         Ok(())
     }
 
-    /// Writes an expression.
     // Long, since each form of an expression has its own arm.
+    /// Writes an expression.
     #[cycle(print)]
     pub fn expr(&mut self, e: &Expr) -> Result<(), AllocError>
         ensures { OnOk result (self.new ≡ self.old ++ text_of_marks (spelled_expr e.now).marks) }
@@ -190,8 +190,8 @@ impl Printer {
         Ok(())
     }
 
-    /// Writes a set.
     // Long, since each form of a set has its own arm.
+    /// Writes a set.
     #[cycle(print)]
     pub fn set(&mut self, set: &SetExpr) -> Result<(), AllocError>
         ensures { OnOk result (self.new ≡ self.old ++ text_of_marks (spelled_set set.now).marks) }

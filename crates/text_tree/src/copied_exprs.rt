@@ -42,8 +42,8 @@ fn boxed_set(alloc: Global, set: &SetExpr) -> Result<Boxed<SetExpr>, AllocError>
     Boxed::new(alloc, copy)
 }
 
-/// An equal expression.
 // Long, since each form of an expression has its own arm.
+/// An equal expression.
 #[cycle(copies)]
 fn copy_expr(alloc: Global, e: &Expr) -> Result<Expr, AllocError>
     ensures { IfOk result (λ copy. copy ≡ e.now) }
@@ -168,8 +168,8 @@ fn copy_filters(alloc: Global, filters: &[Filter]) -> Result<Items<Filter>, Allo
     Ok(Items::from_vec(copies))
 }
 
-/// An equal set.
 // Long, since each form of a set has its own arm.
+/// An equal set.
 #[cycle(copies)]
 fn copy_set(alloc: Global, set: &SetExpr) -> Result<SetExpr, AllocError>
     ensures { IfOk result (λ copy. copy ≡ set.now) }

@@ -143,8 +143,8 @@ fn updated_field(
     Ok(TCommand::UpdateFieldPolicy(m, f, read, write))
 }
 
-/// New policies of a field that may allow more, and why.
 // Six beside the allocator: a schema, and the parts of the command as its tree has them.
+/// New policies of a field that may allow more, and why.
 #[tactic(auto, unfolding(crate::specs::Resolved::weakened_field))]
 fn weakened_field(
     alloc: Global,

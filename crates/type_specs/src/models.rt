@@ -112,8 +112,8 @@ pub fn typed_field(
     })
 }
 
-/// Adds the next field of the model.
 // Six beside the allocator: where the field stands, the list that it joins, and the field.
+/// Adds the next field of the model.
 #[tactic(auto, using(crate::proofs::Plain::next_field_typed, crate::proofs::Plain::next_field_at_fault))]
 fn next_field(
     alloc: Global,

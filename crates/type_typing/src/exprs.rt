@@ -25,8 +25,8 @@ use type_schema::{ModelNo, Schema, TBase, TExpr, TFilter, TItem, TSet, TTy};
 
 const BOOL: TTy = TTy::Plain(TBase::Bool);
 
-/// An expression, where this type is asked, or none.
 // Long, since each form of an expression has its own arm.
+/// An expression, where this type is asked, or none.
 #[cycle(typing)]
 pub fn typed_expr(
     alloc: Global,
@@ -103,8 +103,8 @@ pub fn typed_expr(
     }
 }
 
-/// A set that is asked for this content.
 // Long, since each form of a set has its own arm.
+/// A set that is asked for this content.
 #[cycle(typing)]
 pub fn typed_set(
     alloc: Global,

@@ -124,8 +124,8 @@ pub fn field_of(
     )
 }
 
-/// A comparison of two values of the base type.
 // Six beside the allocator: what is asked, and the parts of the comparison as its tree has them.
+/// A comparison of two values of the base type.
 pub fn comparison(
     alloc: Global,
     asked: Option<TTy>,

@@ -6,6 +6,7 @@ use std::alloc::{AllocError, Global};
 use std::test::Fail;
 use store_keeper::{Keeper, MemKeeper, SureKeeper};
 
+/// The files that the commands of these tests name.
 pub const STORE_FILES: [File<'static>; 11] = [
     File {
         name: "n.spec",
@@ -128,6 +129,7 @@ fn first_wrong_of(alloc: Global, steps: &[Step]) -> Result<Option<usize>, AllocE
     first_wrong(alloc, &mut store, steps)
 }
 
+/// A session of commands, from a store that holds nothing on.
 pub const SESSION: [Step; 21] = [
     (&["show"], Status::StoreState, b"store is empty\n"),
     (&["check", "s.scm"], Status::StoreState, b"store is empty\n"),
@@ -290,6 +292,7 @@ fn first_other(
     Ok(None)
 }
 
+/// The first command of a session.
 pub const INIT: Step = (&["init", "u.spec"], Status::Done, b"ok version 1\n");
 
 /// The calls: `init` loads and writes, `apply` loads and writes.
