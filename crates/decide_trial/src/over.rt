@@ -189,7 +189,12 @@ pub(crate) fn is_over(
         Node::Present(f, t) => Ok(is_present_over(scope, *f, *t, rest)),
         Node::Not(a) => is_over(alloc, scope, *a, rest),
         Node::And(a, b) | Node::Or(a, b) => {
-            Ok(is_over(alloc, scope, *a, rest)? && is_over(alloc, scope, *b, rest)?)
+            // A part that stands twice is looked at once.
+            let left = is_over(alloc, scope, *a, rest)?;
+            if !left || *a == *b {
+                return Ok(left);
+            }
+            is_over(alloc, scope, *b, rest)
         }
         Node::Exists(sort, a) | Node::Forall(sort, a) => {
             if *sort >= scope.signature.sorts {

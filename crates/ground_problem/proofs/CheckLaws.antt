@@ -35,6 +35,27 @@ set_cases (x ∷ xs) zero (suc id) e = inr e
 set_cases (x ∷ xs) (suc i) zero e = inr e
 set_cases (x ∷ xs) (suc i) (suc id) e = elim (set_cases xs i id e) [ inl same ↦ inl (ap suc same) | inr before ↦ inr before ]
 
+pub set_kept : (xs : List Bool) (i id : ℕ) → slice_get xs id ≡ Some true → slice_get (set xs i true) id ≡ Some true
+set_kept [] i id e = e
+set_kept (x ∷ xs) zero zero e = refl
+set_kept (x ∷ xs) zero (suc id) e = e
+set_kept (x ∷ xs) (suc i) zero e = e
+set_kept (x ∷ xs) (suc i) (suc id) e = set_kept xs i id e
+
+pub set_here : (xs : List Bool) (i : ℕ) → i < length xs → slice_get (set xs i true) i ≡ Some true
+set_here [] i lt = absurd (omega arith)
+set_here (x ∷ xs) zero lt = refl
+set_here (x ∷ xs) (suc i) lt = set_here xs i (omega arith)
+
+-- the listed numbers so far that are below a count are marked, and so is one more
+pub marked_next : (listed : List ℕ) (k count : ℕ) (marks after : List Bool) → k < length listed → length marks ≡ count
+    → ((id : ℕ) → Contains (take k listed) id → id < count → slice_get marks id ≡ Some true)
+    → ((id : ℕ) → slice_get marks id ≡ Some true → slice_get after id ≡ Some true) → (get_or listed k 0 < length marks → slice_get after (get_or listed k 0) ≡ Some true)
+    → (id : ℕ) → Contains (take (k + 1) listed) id → id < count → slice_get after id ≡ Some true
+marked_next listed k count marks after within size h kept here =
+    let P : ℕ → Type 0 = λ id. id < count → slice_get after id ≡ Some true in
+    each_next P listed k 0 within (λ id c lt. kept id (h id c lt)) (λ lt. here (omega arith))
+
 -- the marks after one more
 pub marks_on : (listed : List ℕ) (k : ℕ) → k < length listed → (marks after : List Bool) → ((id : ℕ) → slice_get marks id ≡ Some true → Contains (take k listed) id)
     → ((id : ℕ) → slice_get after id ≡ Some true → (id ≡ get_or listed k 0) ⊎ (slice_get marks id ≡ Some true)) → (id : ℕ) → slice_get after id ≡ Some true → Contains (take (k + 1) listed) id

@@ -16,6 +16,7 @@ use Rattle.ground_terms.specs.Nodes.{Extends, IsOne, term_of}
 use Rattle.ground_terms.specs.declared.part.Variable.{Variable}
 use Rattle.ground_terms.specs.Standing.{AreOnes, terms_at}
 use Rattle.ground_terms.specs.Variables.{variable_at}
+use Rattle.ground_terms.proofs.Placement.{kind_within}
 use Rattle.ground_terms.proofs.Standing.{term_kept, terms_at_kept}
 use Rattle.form_tables.specs.Vocabulary.{AreFormed, IsFormed, IsOther, Pair, Vocabulary, only}
 use Rattle.ground_instances.specs.declared.input.Value.{Value}
@@ -36,7 +37,7 @@ use Rattle.ground_problem.specs.Words.{ArePairs, IsWords, pair_at, vocabulary_at
 use Rattle.ground_problem.specs.WordsFound.{AreSpokenBy, AreWordsFor, IsTellingFor}
 use Rattle.ground_problem.specs.declared.telling.Standing.TheVariants.{Named}
 use Rattle.ground_problem.specs.declared.telling.Telling.{Telling}
-use Rattle.ground_problem.specs.Telling.{IsFine, IsTelling, told_so_far}
+use Rattle.ground_problem.specs.Telling.{AreAllMarked, AreSorted, IsFine, IsListedElement, IsTelling, told_so_far}
 use Rattle.ground_problem.proofs.Decided.{decided}
 
 -- inputs of numbers of terms stand for the same when there are more terms
@@ -172,8 +173,14 @@ module _ (g : Signature) (nodes : List Node) (f : Formula) (ts : List GroundTerm
   from_listed : (t : GroundTerm) → Contains (terms_at terms old.listed.items) t → Contains ts t
   from_listed t c = let P : List GroundTerm → Type 0 = λ us. Contains us t in subst P listed_are c
 
+  are_sorted : AreSorted g terms old.listed.items
+  are_sorted = record {
+    ones = subst (λ (l : Vec ℕ Global). AreOnes terms l.items) found.listed instances.listed.ones;
+    sorted = λ u c. terms_formed.sorted u (from_listed u c);
+  }
+
   ranged : (t : GroundTerm) → Contains ts t → Contains v.named t
-  ranged t c = found.words.ranged t (to_listed t c)
+  ranged t c = found.words.ranged are_sorted t (to_listed t c)
 
   sorted : (t : GroundTerm) → Contains v.named t → (sort : ℕ) × (sort_of g t ≡ Some sort)
   sorted t c = (found.words.fine t c).kind
@@ -221,14 +228,26 @@ module _ (g : Signature) (nodes : List Node) (f : Formula) (ts : List GroundTerm
   }
 
 module _ (g : Signature) (arena : List Node) (variables : List Variable) (closed : Bool) (nodes : List TermNode) (listed : List ℕ) (inputs : List Input) where
-  pub telling_for : (t : Telling) → IsTelling g variables (terms_at nodes listed) closed nodes t → ((id : ℕ) → Contains listed id → slice_get t.standings.items id ≡ Some Named)
+  one_of : (ids : List ℕ) → AreOnes nodes ids → (id : ℕ) → Contains ids id → IsOne nodes id
+  one_of [] ones id c = Contains-none id c
+  one_of (n ∷ ids) ones id c =
+      elim (Contains-cons_cases n ids id c) [
+        | inl here ↦ let P : ℕ → Type 0 = λ k. IsOne nodes k in subst P here ones.0
+        | inr rest ↦ one_of ids ones.1 id rest
+      ]
+
+  pub telling_for : (t : Telling) (marks : List Bool) → AreAllMarked nodes listed marks → IsTelling g variables (terms_at nodes listed) closed nodes t
+      → ((id : ℕ) → IsListedElement g nodes marks id → slice_get t.standings.items id ≡ Some Named)
       → ((i : Input) → Contains inputs i → IsToldInput g (told_so_far nodes t) arena nodes i) → IsTellingFor g arena variables closed nodes listed inputs t
-  telling_for t h marked told = record {
+  telling_for t marks all h marked told = record {
     telling = h;
-    ranged = λ u c.
+    ranged = λ sorted u c.
         let (id, there, e) = in_map (term_of nodes) listed u c in
         let P : GroundTerm → Type 0 = λ u. Contains (terms_at nodes t.named.items) u in
-        subst P e (h.marked id (marked id there)).1;
+        let one = one_of listed sorted.ones id there in
+        let kind = sorted.sorted (term_of nodes id) (to_map (term_of nodes) listed id there) in
+        let element : IsListedElement g nodes marks id = record { one = one; marked = all id there (kind_within nodes id _ one); sort = kind.0; sorted = kind.1 } in
+        subst P e (h.marked id (marked id element)).1;
     told = told;
   }
 
@@ -239,7 +258,7 @@ module _ (g : Signature) (arena : List Node) (variables : List Variable) (closed
       let F : List ℕ → Type 0 = λ ids. (u : GroundTerm) → Contains (terms_at nodes ids) u → IsFine g variables (terms_at nodes listed) closed (terms_at nodes ids) u in
       let G : List ℕ → Type 0 = λ ids. (u : GroundTerm) → Contains (terms_at nodes t.others.items) u → IsOther g (only (terms_at nodes ids)) u in
       let G' : List ℕ → Type 0 = λ ids. (u : GroundTerm) → Contains (terms_at nodes ids) u → IsOther g (only (terms_at nodes w.named.items)) u in
-      let R : List ℕ → Type 0 = λ ids. (u : GroundTerm) → Contains (terms_at nodes listed) u → Contains (terms_at nodes ids) u in
+      let R : List ℕ → Type 0 = λ ids. AreSorted g nodes listed → (u : GroundTerm) → Contains (terms_at nodes listed) u → Contains (terms_at nodes ids) u in
       let T : List ℕ → Type 0 = λ ids. (i : Input) → Contains inputs i → IsToldInput g (record { named = terms_at nodes ids; others = terms_at nodes t.others.items; pairs = map (pair_at nodes) w.pairs.items }) arena nodes i in
       let T' : List ℕ → Type 0 = λ ids. (i : Input) → Contains inputs i → IsToldInput g (record { named = terms_at nodes w.named.items; others = terms_at nodes ids; pairs = map (pair_at nodes) w.pairs.items }) arena nodes i in
       record {

@@ -1,7 +1,8 @@
 -- A vocabulary as it is found.
-use Rattle.std.proofs.Common.{◌≡◌, ℕ, zero, suc, ◌+◌, ◌<◌, ◌≤◌, ◌∙◌, sym, refl, ap, subst, true, false, Bool, List, [], ◌∷◌, ◌++◌, length, get_or, drop, map, Some, None, Contains, inl, inr, ◌⊎◌, add-one}
+use Rattle.std.proofs.Common.{◌≡◌, ◌≢◌, ℕ, zero, suc, arith, eqb, ◌+◌, ◌<◌, ◌≤◌, ◌∙◌, sym, refl, ap, subst, true, false, Bool, List, [], ◌∷◌, ◌++◌, length, get_or, drop, map, Some, None, Contains, inl, inr, ◌⊎◌, add-one}
 use Rattle.std.specs.Prelude.{slice_get}
 use Rattle.std.specs.Option.{option_map}
+use Rattle.std.proofs.lemmas.Bool.{eqb-true, eq-eqb}
 use Rattle.std.proofs.Math.Seq.{drop-cons}
 use Rattle.std.proofs.Math.ListN.{drop_of_length-le}
 use Rattle.std.proofs.lemmas.List.Elements.{Contains-append_cases, Contains-append_left, Contains-push}
@@ -100,6 +101,30 @@ pushed_cases [] y x (suc k) e = cc
 pushed_cases (z ∷ xs) y x zero e = inl e
 pushed_cases (z ∷ xs) y x (suc k) e =
     elim (pushed_cases xs y x k e) [ inl here ↦ inl here | inr last ↦ inr (ap suc last.0, last.1) ]
+
+pushed_front : {A : Type 0} (xs : List A) (y : A) (k : ℕ) → k < length xs → slice_get (xs ++ y ∷ []) k ≡ slice_get xs k
+pushed_front [] y k lt = absurd (omega arith)
+pushed_front (x ∷ xs) y zero lt = refl
+pushed_front (x ∷ xs) y (suc k) lt = pushed_front xs y k (omega arith)
+
+pushed_last : {A : Type 0} (xs : List A) (y : A) → slice_get (xs ++ y ∷ []) (length xs) ≡ Some y
+pushed_last [] y = refl
+pushed_last (x ∷ xs) y = pushed_last xs y
+
+-- what holds of the numbers so far, and of one more
+pub listed_more : (P : ℕ → Type 0) (old new : List Standing) (s : Standing) (k : ℕ) → k ≡ length old → new ≡ old ++ s ∷ [] → ((id : ℕ) → id < k → P id → slice_get old id ≡ Some Named)
+    → (P k → s ≡ Named) → (id : ℕ) → id < k + 1 → P id → slice_get new id ≡ Some Named
+listed_more P old new s k size whole before here id lt p =
+    ap (λ (xs : List Standing). slice_get xs id) whole ∙ by (eqb id k) refl
+  where
+    by : (b : Bool) → eqb id k ≡ b → slice_get (old ++ s ∷ []) id ≡ Some Named
+    by true e =
+        let same : id ≡ k = eqb-true id k e in
+        ap (λ (i : ℕ). slice_get (old ++ s ∷ []) i) (same ∙ size) ∙ (pushed_last old s ∙ ap (λ (z : Standing). Some z) (here (subst P same p)))
+    by false e =
+        let other : id ≢ k = λ same. absurd (let yes = eq-eqb id k same in let no : true ≡ false = sym yes ∙ e in cc) in
+        let less : id < length old = omega (arith, lt, other, size) in
+        pushed_front old s id less ∙ before id (omega (arith, less, size)) p
 
 module _ (g : Signature) (variables : List Variable) (listed : List GroundTerm) (closed : Bool) (nodes : List TermNode) where
   pub telling_begun : (t : Telling) → t.standings.items ≡ [] → t.named.items ≡ [] → t.others.items ≡ [] → IsTelling g variables listed closed nodes t

@@ -1,5 +1,5 @@
 -- A vocabulary as it is found.
-use Rattle.std.specs.Prelude.{◌≡◌, ℕ, ◌⊎◌, Bool, true, List, [], ◌∷◌, Some, Contains, map, slice_get}
+use Rattle.std.specs.Prelude.{◌≡◌, ◌<◌, ℕ, ◌⊎◌, Bool, true, List, [], ◌∷◌, Some, Contains, length, map, slice_get}
 use Rattle.form_formula.specs.declared.structure.Signature.{Signature}
 use Rattle.form_formula.specs.Trees.{Formula}
 use Rattle.form_terms.specs.GroundTerms.{GroundTerm, sort_of}
@@ -49,6 +49,22 @@ AreMarkedOther nodes t = (id : ℕ) → slice_get t.standings.items id ≡ Some 
 -- a marked number is that of a listed term
 abbrev pub AreListedMarks : List TermNode → List ℕ → List Bool → Type 0
 AreListedMarks nodes listed marks = (id : ℕ) → slice_get marks id ≡ Some true → Contains (terms_at nodes listed) (term_of nodes id)
+
+-- and each listed number is marked
+abbrev pub AreAllMarked : List TermNode → List ℕ → List Bool → Type 0
+AreAllMarked nodes listed marks = (id : ℕ) → Contains listed id → id < length nodes → slice_get marks id ≡ Some true
+
+-- a marked number, of a term that has a sort
+pub record IsListedElement (g : Signature) (nodes : List TermNode) (marks : List Bool) (id : ℕ) : Type 0 where
+  pub one : IsOne nodes id
+  pub marked : slice_get marks id ≡ Some true
+  pub sort : ℕ
+  pub sorted : sort_of g (term_of nodes id) ≡ Some sort
+
+-- the listed numbers are those of terms that have a sort
+pub record AreSorted (g : Signature) (nodes : List TermNode) (listed : List ℕ) : Type 0 where
+  pub ones : AreOnes nodes listed
+  pub sorted : (u : GroundTerm) → Contains (terms_at nodes listed) u → (sort : ℕ) × (sort_of g u ≡ Some sort)
 
 -- what a standing adds to the named numbers, and to the others
 abbrev pub named_by : Standing → ℕ → List ℕ

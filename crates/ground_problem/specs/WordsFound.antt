@@ -14,14 +14,14 @@ use Rattle.ground_problem.specs.declared.telling.Telling.{Telling}
 use Rattle.ground_problem.specs.declared.words.Words.{Words}
 use Rattle.ground_instances.specs.Inputs.{AreInputs}
 use Rattle.ground_problem.specs.Inputs.{AddsFields, IsToldInput, pairs_in}
-use Rattle.ground_problem.specs.Telling.{IsFine, IsTelling, told_so_far}
+use Rattle.ground_problem.specs.Telling.{AreSorted, IsFine, IsTelling, told_so_far}
 use Rattle.ground_problem.specs.Words.{vocabulary_at}
 
 module _ (g : Signature) (arena : List Node) (variables : List Variable) (closed : Bool) (nodes : List TermNode) (listed : List ℕ) (inputs : List Input) where
-  -- the listed terms name elements, and the inputs speak of the terms that were found
+  -- the listed terms name elements, if they have sorts, and the inputs speak of the terms that were found
   pub record IsTellingFor (t : Telling) : Type 0 where
     pub telling : IsTelling g variables (terms_at nodes listed) closed nodes t
-    pub ranged : (u : GroundTerm) → Contains (terms_at nodes listed) u → Contains (terms_at nodes t.named.items) u
+    pub ranged : AreSorted g nodes listed → (u : GroundTerm) → Contains (terms_at nodes listed) u → Contains (terms_at nodes t.named.items) u
     pub told : (i : Input) → Contains inputs i → IsToldInput g (told_so_far nodes t) arena nodes i
 
   -- the same of words, with the pairs of which inputs speak
@@ -30,7 +30,7 @@ module _ (g : Signature) (arena : List Node) (variables : List Variable) (closed
     pub other_ones : AreOnes nodes w.others.items
     pub fine : (u : GroundTerm) → Contains (terms_at nodes w.named.items) u → IsFine g variables (terms_at nodes listed) closed (terms_at nodes w.named.items) u
     pub functions : (u : GroundTerm) → Contains (terms_at nodes w.others.items) u → IsOther g (only (terms_at nodes w.named.items)) u
-    pub ranged : (u : GroundTerm) → Contains (terms_at nodes listed) u → Contains (terms_at nodes w.named.items) u
+    pub ranged : AreSorted g nodes listed → (u : GroundTerm) → Contains (terms_at nodes listed) u → Contains (terms_at nodes w.named.items) u
     pub told : (i : Input) → Contains inputs i → IsToldInput g (vocabulary_at nodes w) arena nodes i
     pub pairs : w.pairs.items ≡ flat_map pairs_in inputs
 

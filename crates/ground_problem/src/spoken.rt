@@ -1,6 +1,6 @@
 //! The vocabulary of instances.
 
-ghost use Rattle.std.specs.Prelude.{◌≡◌, ◌⊎◌, [], Contains, IfOk, IsTrue, List, Some, length, map};
+ghost use Rattle.std.specs.Prelude.{◌≡◌, ◌<◌, ◌⊎◌, [], Contains, IfOk, List, Some, length, map};
 ghost use Rattle.std.specs.Prelude.{slice_get, true, ℕ};
 ghost use Rattle.form_formula.specs.Over.{IsOver};
 ghost use Rattle.form_formula.specs.Trees.{Formula};
@@ -13,13 +13,13 @@ ghost use Rattle.ground_instances.specs.Inputs.{AreInputs};
 ghost use Rattle.ground_problem.specs.Inputs.{AreFieldsOf, RelateTerms};
 ghost use Rattle.ground_problem.specs.Spoken.{IsSpoken};
 ghost use Rattle.ground_problem.specs.Words.{IsWords};
-ghost use Rattle.ground_problem.specs.Telling.{AreListedMarks};
+ghost use Rattle.ground_problem.specs.Telling.{AreAllMarked, AreListedMarks};
 ghost use Rattle.ground_problem.specs.WordsFound.{AreSpokenBy, AreWordsFor, IsTellingFor};
 
 use crate::checks::Check;
 use crate::fields::fields_of;
 use crate::pairs::pairs_of;
-use crate::telling::{Source, Standing, Telling, tell};
+use crate::telling::{Source, Telling, tell};
 use crate::words::{PairNode, Words};
 use form_formula::{Arena, Signature};
 use ground_instances::{Input, Instances};
@@ -37,8 +37,12 @@ pub struct Spoken {
 
 /// Marks a number, if there is a place for it.
 fn mark(marks: &mut Vec<bool>, id: u32)
-    ensures { (k : ℕ) → slice_get marks.new.items k ≡ Some true →
+    ensures only { (k : ℕ) → slice_get marks.new.items k ≡ Some true →
         (k ≡ id) ⊎ (slice_get marks.old.items k ≡ Some true) }
+    ensures kept { (k : ℕ) → slice_get marks.old.items k ≡ Some true →
+        slice_get marks.new.items k ≡ Some true }
+    ensures marked { id < length marks.old.items → slice_get marks.new.items id ≡ Some true }
+    ensures length { length marks.new.items ≡ length marks.old.items }
 {
     let place = id as usize;
     if place >= marks.len() {
@@ -49,8 +53,10 @@ fn mark(marks: &mut Vec<bool>, id: u32)
 
 /// For each number below a count whether it is in a list.
 fn marks_of(alloc: Global, count: usize, listed: &[u32]) -> Result<Vec<bool>, AllocError>
-    ensures { IfOk result (λ marks. (id : ℕ) → slice_get marks.items id ≡ Some true →
+    ensures only { IfOk result (λ marks. (id : ℕ) → slice_get marks.items id ≡ Some true →
         Contains listed.now id) }
+    ensures each { IfOk result (λ marks. (id : ℕ) → Contains listed.now id → id < count →
+        slice_get marks.items id ≡ Some true) }
 {
     let mut marks = vec![in alloc; false; count]?;
     for id in listed {
@@ -59,20 +65,7 @@ fn marks_of(alloc: Global, count: usize, listed: &[u32]) -> Result<Vec<bool>, Al
     Ok(marks)
 }
 
-/// Whether each of some numbers is that of a term that names an element.
-fn are_named(telling: &Telling, listed: &[u32]) -> bool
-    ensures { IsTrue result → (id : ℕ) → Contains listed.now id →
-        slice_get telling.now.standings.items id ≡ Some Standing.Named }
-{
-    for id in listed {
-        if !telling.is_named(*id) {
-            return false;
-        }
-    }
-    true
-}
-
-/// Finds the terms of a vocabulary, and whether the listed terms and the inputs are of it.
+/// Finds the terms of a vocabulary, and whether the inputs are of it.
 fn telling_of(
     alloc: Global,
     arena: &Arena,
@@ -81,6 +74,7 @@ fn telling_of(
     fields: &[u32],
 ) -> Result<Telling, AllocError>
     requires marks { AreListedMarks source.terms.now source.listed.now source.marks.now }
+    requires all { AreAllMarked source.terms.now source.listed.now source.marks.now }
     requires fields { AreFieldsOf source.terms.now inputs.now fields.now }
     ensures { IfOk result (IsTellingFor source.entry.signature.now arena.now
         source.entry.variables.now source.entry.closed source.entry.terms.now
@@ -93,9 +87,6 @@ fn telling_of(
         terms: source.terms,
         telling: &telling,
     };
-    if !are_named(&telling, source.listed) {
-        return Err(AllocError);
-    }
     if !check.are_told(inputs, fields) {
         return Err(AllocError);
     }
@@ -129,6 +120,7 @@ fn words_of(
     fields: &[u32],
 ) -> Result<Words, AllocError>
     requires marks { AreListedMarks source.terms.now source.listed.now source.marks.now }
+    requires all { AreAllMarked source.terms.now source.listed.now source.marks.now }
     requires fields { AreFieldsOf source.terms.now inputs.now fields.now }
     ensures { IfOk result (AreWordsFor source.entry.signature.now arena.now
         source.entry.variables.now source.entry.closed source.entry.terms.now

@@ -1,7 +1,7 @@
 //! Which terms name elements, and which have other values.
 
-ghost use Rattle.std.specs.Prelude.{◌≡◌, ◌<◌, ◌++◌, ◌∷◌, [], Contains, IfOk, IsTrue, OnOk};
-ghost use Rattle.std.specs.Prelude.{length, map, slice_get, true};
+ghost use Rattle.std.specs.Prelude.{◌≡◌, ◌↔◌, ◌<◌, ◌++◌, ◌∷◌, ℕ, [], Contains, IfOk, IsTrue};
+ghost use Rattle.std.specs.Prelude.{OnOk, Some, length, map, slice_get, true};
 ghost use Rattle.form_formula.specs.Trees.{Formula};
 ghost use Rattle.form_terms.specs.GroundTerms.{field, skolem, sort_of};
 ghost use Rattle.form_terms.specs.Universe.{HaveSorts, HasEach, variables_of};
@@ -9,7 +9,8 @@ ghost use Rattle.ground_terms.specs.Nodes.{IsList, IsOne, list_of, term_of};
 ghost use Rattle.ground_terms.specs.Standing.{terms_at};
 ghost use Rattle.ground_terms.specs.Variables.{variable_at};
 ghost use Rattle.form_tables.specs.Vocabulary.{IsFormed, only};
-ghost use Rattle.ground_problem.specs.Telling.{AreListedMarks, AreMarked, IsStandingOf, IsTelling};
+ghost use Rattle.ground_problem.specs.Telling.{AreListedMarks, AreMarked, IsListedElement};
+ghost use Rattle.ground_problem.specs.Telling.{IsStandingOf, IsTelling};
 ghost use Rattle.ground_problem.specs.Telling.{named_by, others_by};
 
 use form_formula::{Range, Signature};
@@ -54,10 +55,27 @@ pub(crate) struct Source<'a> {
 impl Source<'_> {
     /// Whether the term of a number is a listed one.
     fn is_listed(self, id: u32) -> bool
-        ensures { IsTrue result → slice_get self.entry.marks.now id ≡ Some true }
+        ensures { IsTrue result ↔ (slice_get self.entry.marks.now id ≡ Some true) }
     {
         match self.marks.get(id as usize) {
             Some(mark) => *mark,
+            None => false,
+        }
+    }
+
+    /// Whether it is, and names an element.
+    fn is_listed_element(self, id: u32) -> bool
+        requires { IsOne self.terms.now id }
+        ensures yes { IsTrue result → IsListedElement self.entry.signature.now
+            self.entry.terms.now self.entry.marks.now id }
+        ensures each { IsListedElement self.entry.signature.now self.entry.terms.now
+            self.entry.marks.now id → IsTrue result }
+    {
+        if !self.is_listed(id) {
+            return false;
+        }
+        match sort_of(self.signature, self.terms, id) {
+            Some(_) => true,
             None => false,
         }
     }
@@ -191,11 +209,16 @@ impl Telling {
         requires marks { AreListedMarks source.terms.now source.listed.now source.marks.now }
         requires node { slice_get source.terms.now id ≡ Some (TermNode.Field h t) }
         requires means { term_of source.terms.now id ≡ field h (term_of source.terms.now t) }
-        ensures { IsStandingOf source.entry.signature.now source.entry.variables.now
+        ensures stands { IsStandingOf source.entry.signature.now source.entry.variables.now
             (terms_at source.entry.terms.now source.entry.listed.now) source.entry.closed
             source.entry.terms.now
             (terms_at source.entry.terms.now self.now.named.items) id result }
+        ensures listed { IsListedElement source.entry.signature.now source.entry.terms.now
+            source.entry.marks.now id → result ≡ Standing.Named }
     {
+        if source.is_listed_element(id) {
+            return Standing::Named;
+        }
         let Some(sig) = source.signature.funs.get(h as usize) else {
             return Standing::Absent;
         };
@@ -208,9 +231,6 @@ impl Telling {
                 if !source.closed {
                     return Standing::Named;
                 }
-                if source.is_listed(id) {
-                    return Standing::Named;
-                }
                 Standing::Other
             }
         }
@@ -221,10 +241,12 @@ impl Telling {
         requires marked { AreMarked source.terms.now self.now }
         requires marks { AreListedMarks source.terms.now source.listed.now source.marks.now }
         requires within { id < length source.terms.now }
-        ensures { IsStandingOf source.entry.signature.now source.entry.variables.now
+        ensures stands { IsStandingOf source.entry.signature.now source.entry.variables.now
             (terms_at source.entry.terms.now source.entry.listed.now) source.entry.closed
             source.entry.terms.now
             (terms_at source.entry.terms.now self.now.named.items) id result }
+        ensures listed { IsListedElement source.entry.signature.now source.entry.terms.now
+            source.entry.marks.now id → result ≡ Standing.Named }
     {
         match source.terms.node(id) {
             TermNode::Constant(_) => {
@@ -278,9 +300,12 @@ impl Telling {
 /// Finds which terms name elements, and which have other values.
 pub(crate) fn tell(alloc: Global, source: Source<'_>) -> Result<Telling, AllocError>
     requires { AreListedMarks source.terms.now source.listed.now source.marks.now }
-    ensures { IfOk result (λ telling. IsTelling source.entry.signature.now
+    ensures telling { IfOk result (λ telling. IsTelling source.entry.signature.now
         source.entry.variables.now (terms_at source.entry.terms.now source.entry.listed.now)
         source.entry.closed source.entry.terms.now telling) }
+    ensures listed { IfOk result (λ telling. (id : ℕ) → IsListedElement source.entry.signature.now
+        source.entry.terms.now source.entry.marks.now id →
+        slice_get telling.standings.items id ≡ Some Standing.Named) }
 {
     let count = source.terms.len() as u32;
     let mut telling = Telling {

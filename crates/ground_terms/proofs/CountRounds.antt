@@ -24,10 +24,10 @@ use Rattle.ground_terms.specs.Applying.{of_sort_in}
 use Rattle.ground_terms.specs.Basis.{IsBasis}
 use Rattle.ground_terms.specs.Codes.{code_variables}
 use Rattle.ground_terms.specs.Counting.{IsAlike, count_in, AreCounts, AreRaised, source_count, function_count, variable_count, part_count, functions_count, parts_count, round_count}
-use Rattle.ground_terms.specs.Parts.{AreParts}
+use Rattle.ground_terms.specs.Parts.{AreThinned}
 use Rattle.ground_terms.specs.Standing.{terms_at}
 use Rattle.ground_terms.proofs.Alike.{alike_sum, alike_product, alike_cut, sum_of-append, product_of-append}
-use Rattle.ground_terms.proofs.Codes.{variables_are}
+use Rattle.ground_terms.proofs.Thinned.{variables_thinned}
 use Rattle.ground_terms.proofs.Standing.{map_next}
 
 one_more : (n : ℕ) → IsAlike n (n + 0)
@@ -175,12 +175,12 @@ module _ (g : Signature) (f : Formula) where
   all_codes nodes count sort (c ∷ cs) =
       ap (λ n. part_count count sort c + n) (all_codes nodes count sort cs) ∙ one_code nodes count sort c (flat_map (code_variables g nodes) cs)
 
-  variables_counted : (nodes : List Node) (count : ℕ → ℕ) (sort : ℕ) (cs : List Part) → AreParts nodes (parts_of f) cs → parts_count count cs sort ≡ sum_of (map (of_variable count sort) (variables_of g f))
+  variables_counted : (nodes : List Node) (count : ℕ → ℕ) (sort : ℕ) (cs : List Part) → AreThinned nodes (parts_of f) cs → parts_count count cs sort ≡ sum_of (map (of_variable count sort) (variables_of g f))
   variables_counted nodes count sort cs h =
-      all_codes nodes count sort cs ∙ ap (λ vs. sum_of (map (of_variable count sort) vs)) (sym (variables_are g nodes (parts_of f) cs h))
+      all_codes nodes count sort cs ∙ ap (λ vs. sum_of (map (of_variable count sort) vs)) (sym (variables_thinned g nodes (parts_of f) cs h))
 
   -- one round more, by the code's forms
-  pub same_round : (nodes : List Node) (cs : List Part) (n sort : ℕ) → AreParts nodes (parts_of f) cs
+  pub same_round : (nodes : List Node) (cs : List Part) (n sort : ℕ) → AreThinned nodes (parts_of f) cs
       → count_after g f (suc n) sort ≡ length (of_sort g f sort (filter (is_plain g f) (first_terms g f))) + round_count (count_after g f n) g (functions g f) cs sort
   same_round nodes cs n sort h =
       let count : ℕ → ℕ = count_after g f n in
@@ -205,7 +205,7 @@ module _ (g : Signature) (f : Formula) where
         source None s = refl
         source (Some from) s = e from (source_below g h from s)
 
-    pub alike_round : (nodes : List Node) (cs : List Part) (count count' : ℕ → ℕ) (fs : List ℕ) (sort : ℕ) → AreParts nodes (parts_of f) cs → AreAlike count count'
+    pub alike_round : (nodes : List Node) (cs : List Part) (count count' : ℕ → ℕ) (fs : List ℕ) (sort : ℕ) → AreThinned nodes (parts_of f) cs → AreAlike count count'
         → IsAlike (round_count count g fs cs sort) (round_count count' g fs cs sort)
     alike_round nodes cs count count' fs sort h e =
         alike_sum (functions_count count g fs sort) (parts_count count cs sort) (functions_count count' g fs sort) (parts_count count' cs sort)
@@ -216,7 +216,7 @@ module _ (g : Signature) (f : Formula) where
         ∙ ap counted (sym (variables_counted nodes count' sort cs h))))
 
     -- rounds that begin alike go on alike
-    step_alike : (nodes : List Node) (cs : List Part) (n m : ℕ) → AreParts nodes (parts_of f) cs → AreAlike (count_after g f n) (count_after g f m) → AreAlike (count_after g f (suc n)) (count_after g f (suc m))
+    step_alike : (nodes : List Node) (cs : List Part) (n m : ℕ) → AreThinned nodes (parts_of f) cs → AreAlike (count_after g f n) (count_after g f m) → AreAlike (count_after g f (suc n)) (count_after g f (suc m))
     step_alike nodes cs n m h e = λ s lt.
         let own : ℕ = length (of_sort g f s (filter (is_plain g f) (first_terms g f))) in
         ap counted (same_round nodes cs n s h)
@@ -224,7 +224,7 @@ module _ (g : Signature) (f : Formula) where
         (alike_round nodes cs (count_after g f n) (count_after g f m) (functions g f) s h e)
         ∙ ap counted (sym (same_round nodes cs m s h)))
 
-    no_more : (nodes : List Node) (cs : List Part) (n : ℕ) → AreParts nodes (parts_of f) cs → AreAlike (count_after g f (suc n)) (count_after g f n) → (k : ℕ) → AreAlike (count_after g f (k + n)) (count_after g f n)
+    no_more : (nodes : List Node) (cs : List Part) (n : ℕ) → AreThinned nodes (parts_of f) cs → AreAlike (count_after g f (suc n)) (count_after g f n) → (k : ℕ) → AreAlike (count_after g f (k + n)) (count_after g f n)
     no_more nodes cs n h e zero = λ s lt. let z : 0 + n ≡ n = omega arith in ap (λ m. counted (count_after g f m s)) z
     no_more nodes cs n h e (suc k) = λ s lt.
         let z : suc k + n ≡ suc (k + n) = omega arith in

@@ -7,11 +7,13 @@ pub mod CountRounds
 pub mod Fewer
 pub mod Keepers
 pub mod Marks
+pub mod Matrices
 pub mod NeededRounds
 pub mod Placement
 pub mod SameTerms
 pub mod Sharing
 pub mod Standing
+pub mod Thinned
 pub mod TreeLemmas
 pub mod TreeSizes
 pub mod WalkLemmas

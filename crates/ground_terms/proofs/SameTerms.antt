@@ -8,19 +8,19 @@ use Rattle.form_formula.specs.declared.structure.Signature.{Signature}
 use Rattle.form_formula.specs.Trees.{Formula}
 use Rattle.form_terms.specs.GroundTerms.{GroundTerm, constant, skolem, field, term_and, source_of}
 use Rattle.form_terms.specs.Parts.{Variable, parts_of, name_of}
-use Rattle.form_terms.specs.Universe.{terms_of, is_needed}
+use Rattle.form_terms.specs.Universe.{is_needed}
 use Rattle.form_terms.specs.Listing.{unique, is_same_term, own_names, first_terms, functions, is_plain, is_skolem, arguments, of_source, field_terms, skolem_terms, terms_after}
 use Rattle.ground_terms.specs.declared.part.Part.{Part}
 use Rattle.ground_terms.specs.declared.part.Part.TheVariants.{Existential, Universal, Named, Dependent, Literal}
 use Rattle.ground_terms.specs.declared.node.TermNode.{TermNode}
 use Rattle.ground_terms.specs.declared.terms.Basis.{Basis}
 use Rattle.ground_terms.specs.Basis.{IsBasis}
-use Rattle.ground_terms.specs.Parts.{AreParts}
+use Rattle.ground_terms.specs.Parts.{AreThinned}
 use Rattle.ground_terms.specs.Standing.{terms_at, AreTermsAt, AreListed}
 use Rattle.ground_terms.specs.Codes.{is_marked, code_variables, code_names, code_terms, code_functions}
 use Rattle.ground_terms.specs.Needed.{AreNeededAfter}
 use Rattle.ground_terms.specs.Applying.{of_source_in, fields_of, choices, skolems_above, code_skolems, is_plain_in, round_terms}
-use Rattle.ground_terms.proofs.Codes.{variables_are, terms_are, functions_are}
+use Rattle.ground_terms.proofs.Thinned.{variables_thinned, terms_thinned, functions_thinned}
 use Rattle.ground_terms.proofs.Standing.{filter-append}
 use Rattle.ground_terms.proofs.AppliedTerms.{flat-append}
 
@@ -84,10 +84,10 @@ module _ (g : Signature) (f : Formula) where
         ∙ (ap (λ xs. xs ++ flat_map (λ v. map (skolem v.number v.sort) (arguments g f ts v.above)) (filter (λ v. is_skolem g f v.above) (flat_map (code_variables g nodes) cs))) (one_code c)
         ∙ ap (λ xs. code_skolems g ts c ++ xs) (all_codes cs)))
 
-    same_skolems : (cs : List Part) → AreParts nodes (parts_of f) cs → flat_map (code_skolems g ts) cs ≡ skolem_terms g f ts
+    same_skolems : (cs : List Part) → AreThinned nodes (parts_of f) cs → flat_map (code_skolems g ts) cs ≡ skolem_terms g f ts
     same_skolems cs h =
         sym (all_codes cs)
-        ∙ ap (λ vs. flat_map (λ v. map (skolem v.number v.sort) (arguments g f ts v.above)) (filter (λ v. is_skolem g f v.above) vs)) (sym (variables_are g nodes (parts_of f) cs h))
+        ∙ ap (λ vs. flat_map (λ v. map (skolem v.number v.sort) (arguments g f ts v.above)) (filter (λ v. is_skolem g f v.above) vs)) (sym (variables_thinned g nodes (parts_of f) cs h))
 
   pub same_plain : (t : GroundTerm) → is_plain_in (functions g f) t ≡ is_plain g f t
   same_plain (constant sort) = refl
@@ -98,7 +98,7 @@ module _ (g : Signature) (f : Formula) where
   same_plains ts = filter_same (is_plain_in (functions g f)) (is_plain g f) ts same_plain
 
   -- the rounds
-  pub same_rounds : (nodes : List Node) (cs : List Part) (n : ℕ) → AreParts nodes (parts_of f) cs
+  pub same_rounds : (nodes : List Node) (cs : List Part) (n : ℕ) → AreThinned nodes (parts_of f) cs
       → round_terms g (functions g f) cs (filter (is_plain g f) (first_terms g f)) (first_terms g f) n ≡ terms_after g f n
   same_rounds nodes cs zero h = refl
   same_rounds nodes cs (suc n) h =
@@ -121,25 +121,24 @@ module _ (g : Signature) (f : Formula) where
       one (Dependent id) = refl
       one (Literal id) = refl
 
-  pub same_first : (nodes : List Node) (cs : List Part) (marks : List Bool) → AreParts nodes (parts_of f) cs → AreNeededAfter g f g.sorts marks
+  pub same_first : (nodes : List Node) (cs : List Part) (marks : List Bool) → AreThinned nodes (parts_of f) cs → AreNeededAfter g f g.sorts marks
       → map constant (filter (is_marked marks) (range_with_len 0 g.sorts)) ++ unique is_same_term (flat_map code_names cs ++ flat_map (code_terms g nodes) cs) ≡ first_terms g f
   same_first nodes cs marks h needed =
       let names : flat_map code_names cs ≡ own_names g f =
-      sym (names_of_codes nodes cs) ∙ ap (λ vs. flat_map (λ v. option_to_list (name_of v.number v.sort v.above)) vs) (sym (variables_are g nodes (parts_of f) cs h)) in
-      let terms : flat_map (code_terms g nodes) cs ≡ terms_of g f = sym (terms_are g nodes (parts_of f) cs h) in
+      sym (names_of_codes nodes cs) ∙ ap (λ vs. flat_map (λ v. option_to_list (name_of v.number v.sort v.above)) vs) (sym (variables_thinned g nodes (parts_of f) cs h)) in
       ap (λ xs. map constant xs ++ unique is_same_term (flat_map code_names cs ++ flat_map (code_terms g nodes) cs))
       (range_same (is_marked marks) (is_needed g f) 0 g.sorts (λ x lt. needed.marked x (omega (arith, lt))))
       ∙ (ap (λ xs. map constant (filter (is_needed g f) (range_with_len 0 g.sorts)) ++ unique is_same_term (xs ++ flat_map (code_terms g nodes) cs)) names
-      ∙ ap (λ xs. map constant (filter (is_needed g f) (range_with_len 0 g.sorts)) ++ unique is_same_term (own_names g f ++ xs)) terms)
+      ∙ ap (λ ts. map constant (filter (is_needed g f) (range_with_len 0 g.sorts)) ++ ts) (sym (terms_thinned g nodes (parts_of f) cs h (own_names g f))))
 
-  pub same_functions : (nodes : List Node) (cs : List Part) → AreParts nodes (parts_of f) cs → unique (λ h k. h == k) (flat_map (code_functions g nodes) cs) ≡ functions g f
-  same_functions nodes cs h = ap (λ xs. unique (λ h k. h == k) xs) (sym (functions_are g nodes (parts_of f) cs h))
+  pub same_functions : (nodes : List Node) (cs : List Part) → AreThinned nodes (parts_of f) cs → unique (λ h k. h == k) (flat_map (code_functions g nodes) cs) ≡ functions g f
+  same_functions nodes cs h = sym (functions_thinned g nodes (parts_of f) cs h)
 
 pub listed_terms : (ts : List GroundTerm) (a b : List TermNode) (xs : List ℕ) → AreListed ts a b [] xs → AreTermsAt b xs ts
 listed_terms ts a b xs h = let P : List ℕ → Type 0 = λ ids. AreTermsAt b ids ts in subst P (sym h.whole) h.stand
 
 module _ (g : Signature) (f : Formula) where
-  pub first_is : (nodes : List Node) (cs cs' : List Part) (marks marks' : List Bool) (a b : List TermNode) (first : List ℕ) → cs' ≡ cs → marks' ≡ marks → AreParts nodes (parts_of f) cs → AreNeededAfter g f g.sorts marks
+  pub first_is : (nodes : List Node) (cs cs' : List Part) (marks marks' : List Bool) (a b : List TermNode) (first : List ℕ) → cs' ≡ cs → marks' ≡ marks → AreThinned nodes (parts_of f) cs → AreNeededAfter g f g.sorts marks
       → AreListed (map constant (filter (is_marked marks') (range_with_len 0 g.sorts)) ++ unique is_same_term (flat_map code_names cs' ++ flat_map (code_terms g nodes) cs')) a b [] first
       → AreTermsAt b first (first_terms g f)
   first_is nodes cs cs' marks marks' a b first e m h needed l =

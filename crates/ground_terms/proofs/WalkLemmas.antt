@@ -1,5 +1,5 @@
 -- Parts of what is pending.
-use Rattle.std.proofs.Common.{◌≡◌, ℕ, ◌+◌, ◌≤◌, ◌<◌, suc, zero, refl, sym, ◌∙◌, List, [], ◌∷◌, ◌++◌, length, take, ap, subst, arith, append_assoc, append-nil, length-append, Option, None}
+use Rattle.std.proofs.Common.{◌≡◌, ℕ, ◌+◌, ◌≤◌, ◌<◌, suc, zero, refl, sym, ◌∙◌, List, [], ◌∷◌, ◌++◌, length, take, ap, subst, arith, append_assoc, append-nil, length-append, Option, None, map}
 use Rattle.std.specs.Option.{option_map}
 use Rattle.std.proofs.lemmas.List.{take-append-le}
 use Rattle.std.proofs.lemmas.List.Sums.{sum_by-append}
@@ -13,8 +13,11 @@ use Rattle.ground_terms.specs.declared.part.Name.{Name}
 use Rattle.ground_terms.specs.declared.part.Part.{Part}
 use Rattle.ground_terms.specs.declared.walk.Pending.{Pending}
 use Rattle.ground_terms.specs.declared.walk.Walk.{Walk}
-use Rattle.ground_terms.specs.Parts.{ground_name, ground_names, AreParts}
-use Rattle.ground_terms.specs.Walk.{name_below, pending_parts, quantifiers_left, all_parts, AreWithin, AreOutside, ArePending, steps_left, IsWalkOf, pending_of, names_of, universal_of, own_parts, own_quantifiers, IsExpansion}
+use Rattle.ground_terms.specs.Matrices.{AddsMatrix, AnyTerm, IsMatrix, terms_below}
+use Rattle.ground_terms.specs.Parts.{ground_name, ground_names, AreParts, AreThinned, IsAtomTerm, Thins}
+use Rattle.ground_terms.specs.Walk.{name_below, pending_parts, quantifiers_left, all_parts, AreWithin, AreOutside, ArePending, steps_left, IsWalkOf, pending_of, names_of, universal_of, own_parts, own_quantifiers, IsExpansion, IsMatrixStep}
+use Rattle.ground_terms.proofs.Matrices.{a-step, parts-of-matrix}
+use Rattle.ground_terms.proofs.Thinned.{thins-all, thins-append, thins-map}
 
 pub AreParts-append : (nodes : List Node) (ps qs : List tree.Part) (cs ds : List Part) → AreParts nodes ps cs → AreParts nodes qs ds → AreParts nodes (ps ++ qs) (cs ++ ds)
 AreParts-append nodes [] qs [] ds h k = k
@@ -332,6 +335,50 @@ module _ (nodes : List Node) where
       add_none : (a : ℕ) → a + 0 ≡ a
       add_none a = omega arith
 
+module _ (nodes : List Node) where
+  -- what is left where a formula without quantifiers is taken out
+  matrix_left : (total found0 : List tree.Part) (pending0 rest : List Pending) (names0 : List (Option Name)) (above0 : List ℕ) (number : ℕ) (p : Pending)
+      → pending0 ≡ rest ++ p ∷ [] → ArePending nodes pending0 → AreWithin (length names0) (length above0) pending0
+      → found0 ++ all_parts nodes names0 above0 number pending0 ≡ total → IsMatrix nodes p.id
+      → let names1 = take p.quantifiers names0 in let above1 = take p.universals above0 in
+      ArePending nodes rest × AreWithin (length names1) (length above1) rest
+      × ((found0 ++ map (tree.atom_term (ground_names names1)) (terms_below nodes p.id)) ++ all_parts nodes names1 above1 number rest ≡ total)
+      × (steps_left nodes rest < steps_left nodes pending0)
+  matrix_left total found0 pending0 rest names0 above0 number p whole sound within all is =
+      let P : List Pending → Type 0 = λ xs. ArePending nodes xs in
+      let W : List Pending → Type 0 = λ xs. AreWithin (length names0) (length above0) xs in
+      let split = pending_split nodes rest p (subst P whole sound) in
+      let last = within_last nodes (length names0) (length above0) rest p (subst W whole within) in
+      let names1 : List (Option Name) = take p.quantifiers names0 in
+      let above1 : List ℕ = take p.universals above0 in
+      let q : length names1 ≡ p.quantifiers = length-take nodes p.quantifiers names0 last.0 in
+      let u : length above1 ≡ p.universals = length-take nodes p.universals above0 last.1 in
+      let plain = is.plain in
+      let own : List tree.Part = map (tree.atom_term (ground_names names1)) (terms_below nodes p.id) in
+      let m2 : ℕ = number + (0 + quantifiers (formula_of nodes p.id)) in
+      let same : m2 ≡ number = omega arith in
+      let E : List tree.Part = all_parts nodes names1 above1 number rest in
+      let of_p : pending_parts nodes names0 above0 (number + 0) p ≡ own = parts-of-matrix (number + 0) (ground_names names1) above1 (formula_of nodes p.id) plain in
+      let of_rest : E ≡ all_parts nodes names0 above0 m2 rest =
+      all_parts_same nodes names0 names1 above0 above1 number p.quantifiers p.universals rest split.2
+      (λ k h. take_take nodes k p.quantifiers names0 h) (λ k h. take_take nodes k p.universals above0 h)
+      ∙ ap (λ n. all_parts nodes names0 above0 n rest) (sym same) in
+      let of_all : all_parts nodes names0 above0 number pending0 ≡ own ++ E =
+      ap (λ xs. all_parts nodes names0 above0 number xs) whole
+      ∙ (all_parts-append nodes names0 above0 number rest (p ∷ [])
+      ∙ (ap (λ es. es ++ all_parts nodes names0 above0 m2 rest) of_p ∙ ap (λ es. own ++ es) (sym of_rest))) in
+      let one = a-step (formula_of nodes p.id) in
+      let steps : steps_left nodes pending0 ≡ steps_left nodes rest + (0 + steps_of (formula_of nodes p.id)) =
+      ap (λ xs. steps_left nodes xs) whole ∙ sum_by-append (λ p. steps_of (formula_of nodes p.id)) rest (p ∷ []) in (
+        split.0,
+        along2 (λ a b. AreWithin a b rest) p.quantifiers (length names1) p.universals (length above1) (sym q) (sym u) split.2,
+        append_assoc found0 own E ∙ (ap (λ es. found0 ++ es) (sym of_all) ∙ all),
+        omega arith,
+      )
+    where
+      along2 : (Q : ℕ → ℕ → Type 0) (a a' b b' : ℕ) → a ≡ a' → b ≡ b' → Q a b → Q a' b'
+      along2 Q a a' b b' e f h = subst (λ y. Q a' y) f (subst (λ x. Q x b) e h)
+
 along : (Q : List Pending → List (Option Name) → List ℕ → ℕ → Type 0) (a a' : List Pending) (b b' : List (Option Name)) (c c' : List ℕ) (d d' : ℕ)
     → a ≡ a' → b ≡ b' → c ≡ c' → d ≡ d' → Q a b c d → Q a' b' c' d'
 along Q a a' b b' c c' d d' p q r t h =
@@ -340,6 +387,15 @@ along Q a a' b b' c c' d d' p q r t h =
     let C : List ℕ → Type 0 = λ c. Q a' b' c d in
     let D : ℕ → Type 0 = λ d. Q a' b' c' d in
     subst D t (subst C r (subst B q (subst A p h)))
+
+-- more parts
+thinned_more : (nodes : List Node) (found own kept : List tree.Part) (cs more cs2 : List Part) → AreThinned nodes found cs → Thins IsAtomTerm own kept → AreParts nodes kept more → cs2 ≡ cs ++ more
+    → AreThinned nodes (found ++ own) cs2
+thinned_more nodes found own kept cs more cs2 h thins are e = (
+  h.0 ++ kept,
+  thins-append IsAtomTerm found own h.0 kept h.1 thins,
+  subst (λ (xs : List Part). AreParts nodes (h.0 ++ kept) xs) (sym e) (AreParts-append nodes h.0 kept cs more h.2 are),
+)
 
 -- one step of a walk: the formula that was pending last is taken out, what stands below it is forgotten, and its node is expanded
 pub walk_expanded : (nodes : List Node) (total : List tree.Part) (w0 w1 w2 : Walk) (p : Pending) (n : Node)
@@ -364,15 +420,37 @@ walk_expanded nodes total w0 w1 w2 p n e w d a k f means placed x =
     let done = along R _ w2.pending.items _ w2.names.items _ w2.above.items _ w2.number (sym x.pending) (sym x.names) (sym x.above) (sym x.number) now in
     let O : List Pending → List (Option Name) → List ℕ → ℕ → Type 0 = λ unused names above number. AreParts nodes (own_parts nodes names above number n) x.parts.0 in
     let more : AreParts nodes own x.parts.0 = along O [] [] w1.names.items names1 w1.above.items above1 w1.number w0.number refl d a k x.parts.1 in
-    let C : List Part → Type 0 = λ cs. AreParts nodes (w.found ++ own) cs in
-    let shown : AreParts nodes (w.found ++ own) w2.parts.items =
-    subst C (sym (x.parts.2 ∙ ap (λ cs. cs ++ x.parts.0) f)) (AreParts-append nodes w.found own w0.parts.items x.parts.0 w.shown more) in
+    let shown : AreThinned nodes (w.found ++ own) w2.parts.items =
+    thinned_more nodes w.found own own w0.parts.items x.parts.0 w2.parts.items w.shown (thins-all IsAtomTerm own) more (x.parts.2 ∙ ap (λ cs. cs ++ x.parts.0) f) in
+    (record { sound = done.0; within = done.1; found = w.found ++ own; shown = shown; whole = done.2 }, done.3)
+
+-- or it is without quantifiers, and its parts are found
+pub walk_matrix : (nodes : List Node) (total : List tree.Part) (w0 w1 w2 : Walk) (p : Pending)
+    → w0.pending.items ≡ w1.pending.items ++ p ∷ [] → IsWalkOf nodes total w0
+    → w1.names.items ≡ take p.quantifiers w0.names.items → w1.above.items ≡ take p.universals w0.above.items → w1.number ≡ w0.number → w1.parts.items ≡ w0.parts.items
+    → IsMatrixStep nodes p w1 w2
+    → IsWalkOf nodes total w2 × (steps_left nodes w2.pending.items < steps_left nodes w0.pending.items)
+walk_matrix nodes total w0 w1 w2 p e w d a k f x =
+    let names1 : List (Option Name) = take p.quantifiers w0.names.items in
+    let above1 : List ℕ = take p.universals w0.above.items in
+    let own : List tree.Part = map (tree.atom_term (ground_names names1)) (terms_below nodes p.id) in
+    let step = matrix_left nodes total w.found w0.pending.items w1.pending.items w0.names.items w0.above.items w0.number p e w.sound w.within w.whole x.matrix in
+    let R : List Pending → List (Option Name) → List ℕ → ℕ → Type 0 =
+    λ pending names above number.
+    ArePending nodes pending × AreWithin (length names) (length above) pending × ((w.found ++ own) ++ all_parts nodes names above number pending ≡ total)
+    × (steps_left nodes pending < steps_left nodes w0.pending.items) in
+    let done = along R _ w2.pending.items _ w2.names.items _ w2.above.items _ w2.number (sym x.pending) (sym (x.names ∙ d)) (sym (x.above ∙ a)) (sym (x.number ∙ k)) step in
+    let added : AddsMatrix nodes names1 p.id w1.parts.items w2.parts.items = subst (λ (names : List (Option Name)). AddsMatrix nodes names p.id w1.parts.items w2.parts.items) d x.parts in
+    let kept : List tree.Part = map (tree.atom_term (ground_names names1)) added.kept in
+    let shown : AreThinned nodes (w.found ++ own) w2.parts.items =
+    thinned_more nodes w.found own kept w0.parts.items added.more w2.parts.items w.shown
+    (thins-map AnyTerm IsAtomTerm (tree.atom_term (ground_names names1)) (λ t. tt) (terms_below nodes p.id) added.kept added.thinned) added.are (added.whole ∙ ap (λ cs. cs ++ added.more) f) in
     (record { sound = done.0; within = done.1; found = w.found ++ own; shown = shown; whole = done.2 }, done.3)
 
 -- the parts that were found, where nothing is left
-pub all_found : (nodes : List Node) (total : List tree.Part) (w : Walk) → IsWalkOf nodes total w → w.pending.items ≡ [] → AreParts nodes total w.parts.items
+pub all_found : (nodes : List Node) (total : List tree.Part) (w : Walk) → IsWalkOf nodes total w → w.pending.items ≡ [] → AreThinned nodes total w.parts.items
 all_found nodes total w is e =
-    let P : List tree.Part → Type 0 = λ ps. AreParts nodes ps w.parts.items in
+    let P : List tree.Part → Type 0 = λ ps. AreThinned nodes ps w.parts.items in
     subst P (sym (append-nil is.found) ∙ (ap (λ xs. is.found ++ all_parts nodes w.names.items w.above.items w.number xs) (sym e) ∙ is.whole)) is.shown
 
 pub none_left : {A : Type 0} (xs : List A) → length xs ≡ 0 → xs ≡ []

@@ -4,6 +4,7 @@ pub mod Codes
 pub mod Counting
 pub mod Keeping
 pub mod Limited
+pub mod Matrices
 pub mod Needed
 pub mod Nodes
 pub mod Parts

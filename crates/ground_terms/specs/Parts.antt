@@ -1,5 +1,5 @@
 -- The parts of a formula, in the code's form.
-use Rattle.std.specs.Prelude.{◌≡◌, ℕ, List, [], ◌∷◌, map, Option, None, Some, slice_index_or}
+use Rattle.std.specs.Prelude.{◌≡◌, ◌⊎◌, ℕ, List, [], ◌∷◌, Contains, map, Option, None, Some, slice_index_or}
 use Rattle.std.specs.Option.{option_map}
 use Rattle.form_formula.specs.declared.node.Node.{Node}
 use Rattle.form_formula.specs.Trees.{Term, bound, num, str, app}
@@ -52,6 +52,20 @@ AreParts nodes [] [] = Unit {0}
 AreParts nodes [] (c ∷ codes) = ⊥
 AreParts nodes (p ∷ ps) [] = ⊥
 AreParts nodes (p ∷ ps) (c ∷ codes) = IsPart nodes p c × AreParts nodes ps codes
+
+-- A list, of which elements may have been left out that come again later in it.
+abbrev pub Thins : {A : Type 0} → (A → Type 0) → List A → List A → Type 0
+Thins may_go [] kept = kept ≡ []
+Thins {A} may_go (x ∷ xs) kept = (may_go x × Contains xs x × Thins may_go xs kept) ⊎ ((rest : List A) × (kept ≡ x ∷ rest) × Thins may_go xs rest)
+
+abbrev pub IsAtomTerm : tree.Part → Type 0
+IsAtomTerm (tree.existential v) = ⊥
+IsAtomTerm (tree.universal sort) = ⊥
+IsAtomTerm (tree.atom_term names t) = Unit {0}
+
+-- the code's parts are those of the formula, but for terms of atoms that come again later
+abbrev pub AreThinned : List Node → List tree.Part → List Part → Type 0
+AreThinned nodes ps codes = (kept : List tree.Part) × Thins IsAtomTerm ps kept × AreParts nodes kept codes
 
 -- of a term of an atom
 abbrev pub IsTermPart : List Node → List (Option Name) → ℕ → Part → Type 0

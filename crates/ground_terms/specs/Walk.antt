@@ -1,5 +1,5 @@
 -- Formulas whose parts are still to be found.
-use Rattle.std.specs.Prelude.{◌≡◌, ℕ, ◌+◌, ◌≤◌, List, [], ◌∷◌, ◌++◌, length, take, Option, None, Some, sum_by}
+use Rattle.std.specs.Prelude.{◌≡◌, ◌⊎◌, ℕ, ◌+◌, ◌≤◌, List, [], ◌∷◌, ◌++◌, length, take, Option, None, Some, sum_by}
 use Rattle.form_formula.specs.declared.node.Node.{Node}
 use Rattle.form_formula.specs.declared.node.Node.TheVariants as node
 use Rattle.form_formula.specs.Nodes.{IsFormula, formula_of, term_of}
@@ -10,7 +10,8 @@ use Rattle.ground_terms.specs.declared.part.Name.{Name}
 use Rattle.ground_terms.specs.declared.part.Part.{Part}
 use Rattle.ground_terms.specs.declared.walk.Pending.{Pending}
 use Rattle.ground_terms.specs.declared.walk.Walk.{Walk}
-use Rattle.ground_terms.specs.Parts.{ground_names, AreParts, IsTermPart}
+use Rattle.ground_terms.specs.Matrices.{AddsMatrix, IsMatrix}
+use Rattle.ground_terms.specs.Parts.{ground_names, AreParts, AreThinned, IsTermPart}
 
 -- the name of the variable of an `exists` below these `forall`s
 abbrev pub name_below : ℕ → ℕ → List ℕ → Option Name
@@ -59,7 +60,7 @@ pub record IsWalkOf (nodes : List Node) (total : List tree.Part) (w : Walk) : Ty
   pub sound : ArePending nodes w.pending.items
   pub within : AreWithin (length w.names.items) (length w.above.items) w.pending.items
   pub found : List tree.Part
-  pub shown : AreParts nodes found w.parts.items
+  pub shown : AreThinned nodes found w.parts.items
   pub whole : found ++ all_parts nodes w.names.items w.above.items w.number w.pending.items ≡ total
 
 -- the parts of a node that is pending, which stands below all quantifiers that are known, the last one first to be walked over
@@ -168,3 +169,15 @@ pub record IsExpansion (nodes : List Node) (p : Pending) (n : Node) (old new : W
   pub above : new.above.items ≡ old.above.items ++ universal_of n
   pub number : new.number ≡ old.number + own_quantifiers n
   pub parts : AreAdded nodes (own_parts nodes old.names.items old.above.items old.number n) old.parts.items new.parts.items
+
+-- or it found the parts of one without quantifiers
+pub record IsMatrixStep (nodes : List Node) (p : Pending) (old new : Walk) : Type 0 where
+  pub matrix : IsMatrix nodes p.id
+  pub pending : new.pending.items ≡ old.pending.items
+  pub names : new.names.items ≡ old.names.items
+  pub above : new.above.items ≡ old.above.items
+  pub number : new.number ≡ old.number
+  pub parts : AddsMatrix nodes old.names.items p.id old.parts.items new.parts.items
+
+abbrev pub IsStep : List Node → Pending → Node → Walk → Walk → Type 0
+IsStep nodes p n old new = IsExpansion nodes p n old new ⊎ IsMatrixStep nodes p old new

@@ -3,6 +3,7 @@
 //! - `node`: `TermNode`, a term or a list whose parts are numbers of earlier nodes.
 //! - `arena`: `TermArena`, which numbers nodes and shares equal ones.
 //! - `part`: the quantifiers and the terms of a formula, each with what stands above it.
+//! - `matrix`: the terms of a formula without quantifiers.
 //! - `walk`: the parts of a formula.
 //! - `needed`: the sorts that a formula needs.
 //! - `listing`: lists of numbered terms.
@@ -30,6 +31,7 @@ mod first;
 mod ground_err;
 mod limited;
 mod listing;
+mod matrix;
 mod measure;
 mod needed;
 mod node;

@@ -11,7 +11,7 @@ ghost use Rattle.form_terms.specs.GroundTerms.{target_of};
 ghost use Rattle.form_terms.specs.Universe.{is_needed};
 ghost use Rattle.ground_terms.specs.Codes.{AreMarked, code_sorts, is_marked};
 ghost use Rattle.ground_terms.specs.Needed.{AreSpread, AreNeededAfter};
-ghost use Rattle.ground_terms.specs.Parts.{AreParts, HasTerm, HaveTerms};
+ghost use Rattle.ground_terms.specs.Parts.{AreThinned, HasTerm, HaveTerms};
 
 use crate::part::Part;
 use form_formula::{Arena, FunSig, Node, Range, Signature};
@@ -136,7 +136,7 @@ pub(crate) fn needed_sorts(
     parts: &[Part],
 ) -> Result<Vec<bool>, AllocError>
     requires { HaveTerms arena.now parts.now }
-    ensures { IfOk result (λ marks. (f : Formula) → AreParts arena.now (parts_of f) parts.now →
+    ensures { IfOk result (λ marks. (f : Formula) → AreThinned arena.now (parts_of f) parts.now →
         AreNeededAfter signature.now f signature.now.sorts marks.items) }
 {
     let mut marks = vec![in alloc; false; signature.sorts as usize]?;

@@ -100,8 +100,8 @@ pub(crate) fn terms_from(
 ///
 /// Two rounds give the shallow terms, and as many as there are sorts all terms of a formula that is
 /// stratified (Ge and de Moura 2009; Abadi, Rabinovich and Sagiv 2010). The walk for the first
-/// terms is over the formula as a tree. A round that gives what it began with is the last. No limit
-/// is set on how many terms there are.
+/// terms is over the formula as a tree, down to formulas without quantifiers. A round that gives
+/// what it began with is the last. No limit is set on how many terms there are.
 pub fn terms_within(
     alloc: Global,
     arena: &Arena,

@@ -54,7 +54,8 @@ fn variables_in(alloc: Global, parts: &[Part]) -> Result<Vec<Variable>, AllocErr
 
 /// The variables that the `exists` of a formula bind, in reading order.
 ///
-/// The walk is over the formula as a tree, without recursion.
+/// The walk is over the formula as a tree, down to formulas without quantifiers, and without
+/// recursion.
 pub fn variables_of(alloc: Global, arena: &Arena, id: u32) -> Result<Vec<Variable>, AllocError>
     requires { IsFormula arena.now id }
     ensures { IfOk result (λ found. (g : Signature) →

@@ -1,4 +1,4 @@
-//! The parts of a formula, by a walk over its tree.
+//! The parts of a formula, by a walk over it.
 
 ghost use Rattle.std.specs.Prelude.{
   ◌≡◌,
@@ -16,9 +16,12 @@ ghost use Rattle.std.specs.Prelude.{
 ghost use Rattle.form_formula.specs.Nodes.{IsTerm, IsFormula, formula_of};
 ghost use Rattle.form_formula.specs.declared.node.Node.{Node as AnyNode};
 ghost use Rattle.form_terms.specs.Parts.{parts_of};
-ghost use Rattle.ground_terms.specs.Parts.{AreParts, IsTermPart};
-ghost use Rattle.ground_terms.specs.Walk.{IsExpansion, IsOnePart, name_below};
+ghost use Rattle.ground_terms.specs.Matrices.{AddsMatrix, AreMatrices, IsMatrix};
+ghost use Rattle.ground_terms.specs.Parts.{AreThinned, IsTermPart};
+ghost use Rattle.ground_terms.specs.Walk.{IsExpansion, IsOnePart, IsStep, name_below};
 
+use crate::matrix::{matrices_below, terms_below};
+use crate::needed::is_marked;
 use crate::part::{Name, Part, Variable, part_of};
 use form_formula::{Arena, Node};
 use sqlite_items::Items;
@@ -210,6 +213,25 @@ impl Walk {
     }
 }
 
+impl Walk {
+    /// Adds the parts of a formula without quantifiers, but for those that come again later in it.
+    fn add_matrix(&mut self, alloc: Global, arena: &Arena, id: u32) -> Result<(), AllocError>
+        requires { IsMatrix arena.now id }
+        ensures pending { self.new.pending.items ≡ self.old.pending.items }
+        ensures names { self.new.names.items ≡ self.old.names.items }
+        ensures above { self.new.above.items ≡ self.old.above.items }
+        ensures number { self.new.number ≡ self.old.number }
+        ensures parts { OnOk result (AddsMatrix arena.now self.old.names.items id
+            self.old.parts.items self.new.parts.items) }
+    {
+        let terms = terms_below(alloc, arena, id)?;
+        for term in &terms {
+            self.add_term(arena, *term)?;
+        }
+        Ok(())
+    }
+}
+
 /// Takes one step of a walk: the formula that was pending last.
 fn expand(alloc: Global, arena: &Arena, walk: &mut Walk, whole: Pending) -> Result<(), AllocError>
     ghost node: { AnyNode }
@@ -232,15 +254,38 @@ fn expand(alloc: Global, arena: &Arena, walk: &mut Walk, whole: Pending) -> Resu
     }
 }
 
-/// The parts of a formula, in reading order.
+/// Takes one step of a walk: a formula without quantifiers, as its mark says, or another one.
+fn advance(
+    alloc: Global,
+    arena: &Arena,
+    matrices: &[bool],
+    walk: &mut Walk,
+    whole: Pending,
+) -> Result<(), AllocError>
+    ghost node: { AnyNode }
+    requires node { slice_get arena.now whole.id ≡ Some node }
+    requires formula { IsFormula arena.now whole.id }
+    requires matrices { AreMatrices arena.now matrices.now }
+    ensures { OnOk result (IsStep arena.now whole node walk.old walk.new) }
+{
+    if is_marked(matrices, whole.id) {
+        walk.add_matrix(alloc, arena, whole.id)
+    } else {
+        expand(alloc, arena, walk, whole)
+    }
+}
+
+/// The parts of a formula, in reading order, but for terms of atoms that come again later.
 ///
-/// The walk is over the formula as a tree, without recursion.
+/// The walk is without recursion. It is over the formula as a tree down to formulas without
+/// quantifiers, and comes to each node of one of these once.
 pub(crate) fn parts_of(alloc: Global, arena: &Arena, id: u32) -> Result<Vec<Part>, AllocError>
     requires { IsFormula arena.now id }
-    ensures { IfOk result (λ found. AreParts arena.now (parts_of (formula_of arena.now id))
+    ensures { IfOk result (λ found. AreThinned arena.now (parts_of (formula_of arena.now id))
         found.items) }
 {
     let _nodes = arena.len();
+    let matrices = matrices_below(alloc, arena, id)?;
     let mut walk = Walk {
         pending: Vec::new(alloc),
         names: Vec::new(alloc),
@@ -256,7 +301,7 @@ pub(crate) fn parts_of(alloc: Global, arena: &Arena, id: u32) -> Result<Vec<Part
     'steps: while let Some(whole) = walk.pending.pop() {
         walk.names.truncate(whole.quantifiers);
         walk.above.truncate(whole.universals);
-        expand(alloc, arena, &mut walk, whole)?;
+        advance(alloc, arena, matrices.as_slice(), &mut walk, whole)?;
     }
     let Walk {
         pending: _,

@@ -4,5 +4,5 @@ use Rattle.ground_problem.proofs.spoken.telling_of.Goals as goal
 pub returns : goal.returns
 returns c =
     let s = c.args.source in
-    telling_for s.signature.now c.args.arena.now s.variables.now s.closed s.terms.now s.listed.now c.args.inputs.now c.in_ok-telling.telling c.in_ok-telling.ensures (c.are_named.ensures c.if-not-are_named.false)
-    (c.are_told.ensures c.if-not-are_told.false)
+    telling_for s.signature.now c.args.arena.now s.variables.now s.closed s.terms.now s.listed.now c.args.inputs.now c.in_ok-telling.telling s.marks.now c.requires.all c.in_ok-telling.ensures.telling
+    c.in_ok-telling.ensures.listed (c.are_told.ensures c.if-not-are_told.false)

@@ -4,7 +4,7 @@ use Rattle.std.specs.List.{flat_map}
 use Rattle.form_terms.specs.Parts.{parts_of}
 use Rattle.ground_terms.specs.Codes.{AreMarked, code_sorts}
 use Rattle.ground_terms.specs.Needed.{AreSpread, AreNeededAfter}
-use Rattle.ground_terms.proofs.Codes.{sorts_are}
+use Rattle.ground_terms.proofs.Thinned.{marked_thinned}
 use Rattle.ground_terms.proofs.NeededRounds.{after_marking, after_spreading, settled, none_marked_at, written_back, same_marks}
 use Rattle.ground_terms.proofs.needed.needed_sorts.Goals as goal
 
@@ -16,10 +16,9 @@ rounds-init c = λ f h.
     let size : length new ≡ c.in_ok-marks.marks.len = omega (arith, c.mark_parts.ensures.size, ap length c.as_mut_slice.ensures.value, c.in_ok-marks.marks.ok) in
     let P : List Bool → Type 0 = λ ms. AreNeededAfter sig f 0 ms in
     let Q : List Bool → Type 0 = λ old. AreMarked (flat_map (code_sorts sig c.args.arena.now) c.args.parts.now) old new in
-    let S : List ℕ → Type 0 = λ ss. AreMarked ss (replicate sig.sorts false) new in
     subst P (sym (written_back c.in_ok-marks.marks.len new (drop (length new) c.in_ok-marks.marks.items) size))
     (after_marking sig f new (λ sort. none_marked_at sig.sorts sort)
-    (subst S (sym (sorts_are sig c.args.arena.now (parts_of f) c.args.parts.now h)) (subst Q (c.as_mut_slice.ensures.value ∙ items) c.mark_parts.ensures)))
+    (marked_thinned sig c.args.arena.now (parts_of f) c.args.parts.now h (replicate sig.sorts false) new (subst Q (c.as_mut_slice.ensures.value ∙ items) c.mark_parts.ensures)))
 
 pub rounds-preserved : goal.rounds-preserved
 rounds-preserved c = λ f h.

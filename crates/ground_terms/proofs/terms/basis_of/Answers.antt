@@ -7,29 +7,29 @@ use Rattle.form_terms.specs.Parts.{parts_of}
 use Rattle.ground_terms.specs.declared.node.TermNode.{TermNode}
 use Rattle.ground_terms.specs.declared.part.Part.{Part}
 use Rattle.ground_terms.specs.Codes.{code_functions}
-use Rattle.ground_terms.specs.Parts.{AreParts, HaveTerms}
+use Rattle.ground_terms.specs.Parts.{AreThinned, HaveTerms}
 use Rattle.ground_terms.specs.Standing.{AreOnes}
-use Rattle.ground_terms.proofs.Codes.{have_terms}
 use Rattle.ground_terms.proofs.SameTerms.{listed_terms, first_is, plain_is, same_functions}
+use Rattle.ground_terms.proofs.Thinned.{terms_of_thinned}
 use Rattle.ground_terms.proofs.terms.basis_of.Goals as goal
 
 pub needed_sorts-requires : goal.needed_sorts-requires
 needed_sorts-requires c =
     let nodes = c.args.arena.now in
     let P : List Part → Type 0 = λ cs. HaveTerms nodes cs in
-    subst P (sym c.as_slice.ensures.value) (have_terms c.args.signature.now nodes (parts_of (formula_of nodes c.args.id)) c.in_ok-parts.parts.items c.in_ok-parts.ensures)
+    subst P (sym c.as_slice.ensures.value) (terms_of_thinned c.args.signature.now nodes (parts_of (formula_of nodes c.args.id)) c.in_ok-parts.parts.items c.in_ok-parts.ensures)
 
 pub applied_functions-requires : goal.applied_functions-requires
 applied_functions-requires c =
     let nodes = c.args.arena.now in
     let P : List Part → Type 0 = λ cs. HaveTerms nodes cs in
-    subst P (sym c.as_slice-2.ensures.value) (have_terms c.args.signature.now nodes (parts_of (formula_of nodes c.args.id)) c.in_ok-parts.parts.items c.in_ok-parts.ensures)
+    subst P (sym c.as_slice-2.ensures.value) (terms_of_thinned c.args.signature.now nodes (parts_of (formula_of nodes c.args.id)) c.in_ok-parts.parts.items c.in_ok-parts.ensures)
 
 pub first_terms-requires : goal.first_terms-requires
 first_terms-requires c =
     let nodes = c.args.arena.now in
     let P : List Part → Type 0 = λ cs. HaveTerms nodes cs in
-    subst P (sym c.as_slice-4.ensures.value) (have_terms c.args.signature.now nodes (parts_of (formula_of nodes c.args.id)) c.in_ok-parts.parts.items c.in_ok-parts.ensures)
+    subst P (sym c.as_slice-4.ensures.value) (terms_of_thinned c.args.signature.now nodes (parts_of (formula_of nodes c.args.id)) c.in_ok-parts.parts.items c.in_ok-parts.ensures)
 
 pub plain_terms-requires : goal.plain_terms-requires
 plain_terms-requires c =
@@ -43,7 +43,7 @@ returns c =
     let nodes = c.args.arena.now in
     let f = formula_of nodes c.args.id in
     let cs : List Part = c.in_ok-parts.parts.items in
-    let P : List Part → Type 0 = λ cs. AreParts nodes (parts_of f) cs in
+    let P : List Part → Type 0 = λ cs. AreThinned nodes (parts_of f) cs in
     let needed = c.in_ok-needed.ensures f (subst P (sym c.as_slice.ensures.value) c.in_ok-parts.ensures) in
     let applied =
     c.in_ok-functions.ensures ∙ (ap (λ cs. unique (λ h k. h == k) (flat_map (code_functions g nodes) cs)) c.as_slice-2.ensures.value ∙ same_functions g f nodes cs c.in_ok-parts.ensures) in

@@ -5,8 +5,8 @@ use Rattle.form_terms.specs.Parts.{parts_of}
 use Rattle.ground_terms.specs.Walk.{IsWalkOf, steps_left}
 use Rattle.ground_terms.proofs.walk.parts_of.Given as goal
 
-abbrev pub ghost-expand : goal.ghost-expand
-ghost-expand a = get_or a.arena.now a.whole.id Yes
+abbrev pub ghost-advance : goal.ghost-advance
+ghost-advance a = get_or a.arena.now a.whole.id Yes
 
 abbrev pub invariant-steps : goal.invariant-steps
 invariant-steps l = IsWalkOf l.arena (parts_of (formula_of l.arena l.id)) l.walk
