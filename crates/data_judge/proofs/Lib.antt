@@ -7,6 +7,7 @@ pub mod Found
 pub mod Held
 pub mod InOrder
 pub mod Lost
+pub mod NamedSets
 pub mod One
 pub mod Order
 pub mod Sets

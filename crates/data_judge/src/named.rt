@@ -1,27 +1,33 @@
 //! Values and rows that literals name.
 
-ghost use Rattle.std.specs.Prelude.{◌≡◌, [], IfOk, OnOk, None, Some, false, is_none, map, not, option_copied, position};
+ghost use Rattle.std.specs.Prelude.{◌≡◌, ℕ, List, [], IfOk, IfSome, OnOk, None, Some, false, is_none, map, not};
+ghost use Rattle.std.specs.Prelude.{option_copied, position};
+ghost use Rattle.std.specs.List.Sorted.{IsStrictlyIncreasing};
 ghost use Rattle.std.specs.Prelude.{if◌then◌else◌};
 ghost use Rattle.std.specs.Option.{option_map, option_map_or};
 ghost use Rattle.data_judge.specs.Named as spec;
 ghost use Rattle.data_judge.specs.Named.{Adds, GivesRow, GivesValue};
 ghost use Rattle.data_judge.specs.Faults as faults;
-ghost use Rattle.data_judge.specs.Faults.{has, is_base};
+ghost use Rattle.data_judge.specs.Faults.{has, is_flag, is_number, is_text};
+ghost use Rattle.data_meaning.specs.Values as plain;
+ghost use Rattle.data_records.specs.Rows.{AreShaped};
+ghost use Rattle.data_records.specs.Shape.{IsBaseShape, IsShape};
+ghost use Rattle.type_schema.specs.declared.types.TBase.TheVariants as base;
+ghost use Rattle.type_schema.specs.declared.types.TTy.TheVariants.{Opt};
 ghost use Rattle.data_judge.specs.Meaning.{plain_value, with_number};
 ghost use Rattle.data_tree.specs.declared.literals.Lit.{out-Lit};
 ghost use Rattle.data_records.specs.Views.{value_data};
 ghost use Rattle.type_schema.specs.SchemaViews.{field_info_of, model_info_of};
 
 use crate::lit_err::LitErr;
-use crate::literals::is_base;
 use crate::names::{field_named, has_field, same_name};
 use crate::numbers::Numbers;
 use crate::references::model_of;
-use crate::rows::plain_value;
 use data_records::Value;
 use data_tree::{FieldLit, Lit};
 use sqlite_items::{Boxed, Items};
 use std::alloc::{AllocError, Global};
+use text_ast::Txt;
 use type_schema::{FieldInfo, ModelInfo, ModelNo, TBase, TTy};
 
 /// What `self` is in a field of the type, of a record of the model.
@@ -50,15 +56,75 @@ fn id_named(own: Option<u64>, l: &Lit) -> Option<u64>
     }
 }
 
-/// The value of a base type other than ids that is named, if one is.
-fn plain_named(alloc: Global, b: TBase, l: &Lit) -> Result<Option<Value>, AllocError>
-    ensures { IfOk result (λ v. option_map value_data v
-        ≡ (if is_base b (out-Lit l.now) then Some (plain_value (out-Lit l.now)) else None)) }
+/// The truth value that is named, if one is.
+fn flag_named(l: &Lit) -> Option<Value>
+    ensures named { option_map value_data result
+        ≡ (if is_flag (out-Lit l.now) then Some (plain_value (out-Lit l.now)) else None) }
+    ensures shaped { IfSome result (λ v. IsBaseShape base.Bool (value_data v)) }
 {
-    if is_base(l, b) {
-        Ok(Some(plain_value(alloc, l)?))
-    } else {
-        Ok(None)
+    match l {
+        Lit::Flag(flag, _) => Some(Value::Flag(*flag)),
+        Lit::Num(_, _)
+        | Lit::Str(_, _)
+        | Lit::Id(_, _)
+        | Lit::SelfId(_)
+        | Lit::NoneLit(_)
+        | Lit::SomeLit(_, _)
+        | Lit::List(_, _) => None,
+    }
+}
+
+/// Each number of 64 bits has the shape of a number.
+fn number_of(n: i64) -> Value
+    ensures is { value_data result ≡ plain.Num n }
+    ensures shaped { IsBaseShape base.Int (value_data result) }
+{
+    Value::Num(n)
+}
+
+/// The number that is named, if one is.
+fn number_named(l: &Lit) -> Option<Value>
+    ensures named { option_map value_data result
+        ≡ (if is_number (out-Lit l.now) then Some (plain_value (out-Lit l.now)) else None) }
+    ensures shaped { IfSome result (λ v. IsBaseShape base.Int (value_data v)) }
+{
+    match l {
+        Lit::Num(n, _) => Some(number_of(*n)),
+        Lit::Flag(_, _)
+        | Lit::Str(_, _)
+        | Lit::Id(_, _)
+        | Lit::SelfId(_)
+        | Lit::NoneLit(_)
+        | Lit::SomeLit(_, _)
+        | Lit::List(_, _) => None,
+    }
+}
+
+/// The text as a value, in memory of its own.
+fn text_of(alloc: Global, text: &Txt) -> Result<Value, AllocError>
+    ensures is { IfOk result (λ v. value_data v ≡ plain.Str text.now) }
+    ensures shaped { IfOk result (λ v. IsBaseShape base.Text (value_data v)) }
+{
+    let _bytes = text.bytes();
+    let copy = text.copy(alloc)?;
+    Ok(Value::Str(copy))
+}
+
+/// The text that is named, if one is.
+fn text_named(alloc: Global, l: &Lit) -> Result<Option<Value>, AllocError>
+    ensures named { IfOk result (λ v. option_map value_data v
+        ≡ (if is_text (out-Lit l.now) then Some (plain_value (out-Lit l.now)) else None)) }
+    ensures shaped { IfOk result (λ v. IfSome v (λ v. IsBaseShape base.Text (value_data v))) }
+{
+    match l {
+        Lit::Str(text, _) => Ok(Some(text_of(alloc, text)?)),
+        Lit::Flag(_, _)
+        | Lit::Num(_, _)
+        | Lit::Id(_, _)
+        | Lit::SelfId(_)
+        | Lit::NoneLit(_)
+        | Lit::SomeLit(_, _)
+        | Lit::List(_, _) => Ok(None),
     }
 }
 
@@ -69,11 +135,14 @@ fn base_named(
     b: TBase,
     l: &Lit,
 ) -> Result<Option<Value>, AllocError>
-    ensures { IfOk result (λ v. option_map value_data v
+    ensures named { IfOk result (λ v. option_map value_data v
         ≡ spec.base_named own b (out-Lit l.now)) }
+    ensures shaped { IfOk result (λ v. IfSome v (λ v. IsBaseShape b (value_data v))) }
 {
     match b {
-        TBase::Bool | TBase::Int | TBase::Text => plain_named(alloc, b, l),
+        TBase::Bool => Ok(flag_named(l)),
+        TBase::Int => Ok(number_named(l)),
+        TBase::Text => text_named(alloc, l),
         TBase::Id(_) => match id_named(own, l) {
             Some(id) => Ok(Some(Value::Id(id))),
             None => Ok(None),
@@ -100,7 +169,8 @@ fn ids_named(
     own: Option<u64>,
     items: &[Lit],
 ) -> Result<Option<Items<u64>>, AllocError>
-    ensures { IfOk result (λ ids. ids ≡ spec.ids_named own [] items.now) }
+    ensures named { IfOk result (λ ids. ids ≡ spec.ids_named own [] items.now) }
+    ensures rising { IfOk result (λ ids. IfSome ids (λ ids. IsStrictlyIncreasing ids)) }
 {
     let mut seen = Numbers::new(alloc);
     for l in items {
@@ -118,8 +188,9 @@ fn typed_named(
     t: TTy,
     l: &Lit,
 ) -> Result<Option<Value>, AllocError>
-    ensures { IfOk result (λ v. option_map value_data v
+    ensures named { IfOk result (λ v. option_map value_data v
         ≡ spec.typed_named own t (out-Lit l.now)) }
+    ensures shaped { IfOk result (λ v. IfSome v (λ v. IsShape t (value_data v))) }
 {
     match t {
         TTy::Plain(b) => base_named(alloc, own, b, l),
@@ -130,7 +201,10 @@ fn typed_named(
 
 /// The set that is named, if one is.
 fn set_named(alloc: Global, own: Option<u64>, l: &Lit) -> Result<Option<Value>, AllocError>
-    ensures { IfOk result (λ v. option_map value_data v ≡ spec.set_named own (out-Lit l.now)) }
+    ensures named { IfOk result (λ v. option_map value_data v
+        ≡ spec.set_named own (out-Lit l.now)) }
+    ensures shaped { IfOk result (λ v. IfSome v (λ v. (ids : List ℕ) ×
+        (value_data v ≡ plain.Ids ids) × IsStrictlyIncreasing ids)) }
 {
     match l {
         Lit::List(items, _) => match ids_named(alloc, own, items.as_slice())? {
@@ -154,8 +228,9 @@ fn option_named(
     b: TBase,
     l: &Lit,
 ) -> Result<Option<Value>, AllocError>
-    ensures { IfOk result (λ v. option_map value_data v
+    ensures named { IfOk result (λ v. option_map value_data v
         ≡ spec.option_named own b (out-Lit l.now)) }
+    ensures shaped { IfOk result (λ v. IfSome v (λ v. IsShape (Opt b) (value_data v))) }
 {
     match l {
         Lit::NoneLit(_) => Ok(Some(Value::Nothing)),
@@ -180,7 +255,8 @@ pub fn value_from(
     l: &Lit,
     own: Option<u64>,
 ) -> Result<Value, LitErr>
-    ensures { GivesValue info.now.number own (field_info_of field.now) l.now result }
+    ensures given { GivesValue info.now.number own (field_info_of field.now) l.now result }
+    ensures shaped { IfOk result (λ v. IsShape field.now.ty (value_data v)) }
 {
     match typed_named(alloc, own_in(info.number, own, field.ty), field.ty, l)? {
         Some(v) => Ok(v),
@@ -213,8 +289,9 @@ fn field_value(
     ws: &[FieldLit],
     info: &FieldInfo,
 ) -> Result<Option<Value>, AllocError>
-    ensures { IfOk result (λ v. option_map value_data v
+    ensures named { IfOk result (λ v. option_map value_data v
         ≡ spec.field_value m own ws.now (field_info_of info.now)) }
+    ensures shaped { IfOk result (λ v. IfSome v (λ v. IsShape info.now.ty (value_data v))) }
 {
     match one_given(ws, info.name.bytes()) {
         Some(w) => typed_named(alloc, own_in(m, Some(own), info.ty), info.ty, &w.value),
@@ -231,8 +308,11 @@ fn push_values(
     fields: &[FieldInfo],
     row: &mut Items<Value>,
 ) -> Result<(), LitErr>
-    ensures { Adds (spec.row_named m own ws.now (map field_info_of fields.now))
+    ensures adds { Adds (spec.row_named m own ws.now (map field_info_of fields.now))
         (map value_data row.old) result (map value_data row.new) }
+    ensures shaped { OnOk result ((values : List plain.Value) →
+        spec.row_named m own ws.now (map field_info_of fields.now) ≡ Ok values →
+        AreShaped (map field_info_of fields.now) values) }
 {
     match fields {
         [] => Ok(()),
@@ -271,7 +351,9 @@ pub fn row_from(
     ws: &[FieldLit],
     own: u64,
 ) -> Result<Items<Value>, LitErr>
-    ensures { GivesRow (model_info_of info.now) own ws.now result }
+    ensures given { GivesRow (model_info_of info.now) own ws.now result }
+    ensures shaped { IfOk result (λ row. AreShaped (map field_info_of info.now.fields)
+        (map value_data row)) }
 {
     let fields = info.fields.as_slice();
     if let Some(place) = unknown_at(fields, ws) {

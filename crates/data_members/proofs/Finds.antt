@@ -1,13 +1,10 @@
 -- Records that rise are found where they stand, so those that pass the tests of filters are those that are in the set.
-use Rattle.std.proofs.Common.{◌≡◌, ℕ, Bor, Bool, true, false, ◌&&◌, cond, List, [], ◌∷◌, ◌++◌, refl, ap, sym, ◌∙◌, subst, arith, map}
+use Rattle.std.proofs.Common.{◌≡◌, ℕ, Bor, Bool, true, false, ◌&&◌, ◌||◌, cond, List, [], ◌∷◌, ◌++◌, refl, ap, sym, ◌∙◌, subst, arith, map}
 use Rattle.std.specs.Prelude.{filter, ◌==◌, Option, Some, None, is_some, option_copied, option_map, IfSome, IfNone, Result, Ok, Err, IfOk}
 use Rattle.std.specs.List.{find, list_all, list_any, AllByRecursion}
-use Rattle.std.specs.List.Sorted.{IsStrictlyIncreasing, IsStrictlySortedBy}
+use Rattle.std.specs.List.Sorted.{IsStrictlyIncreasing}
 use Rattle.std.specs.Option.{option_map_or}
-use Rattle.std.specs.Ordering.{nat_cmp}
-use Rattle.std.specs.declared.cmp.Ordering.TheVariants.{Less}
 use Rattle.std.proofs.lemmas.Bool.{eq-eqb}
-use Rattle.std.proofs.lemmas.Bool.Decides.{nat_tests}
 use Rattle.std.proofs.lemmas.Map.Keys.{sorted_from_strictly_increasing}
 use Rattle.type_schema.specs.declared.trees.TSet.{TSet}
 use Rattle.type_schema.specs.declared.trees.TSet.TheVariants as s
@@ -22,6 +19,7 @@ use Rattle.data_meaning.specs.declared.principals.Principal.TheVariants.{Rec}
 use Rattle.data_meaning.specs.Database.{Slot, Record, Database, records_of, ids_of, slots_of, field_at}
 use Rattle.data_records.specs.declared.record.Record as code_record
 use Rattle.data_records.specs.Views.{record_data, slot_data, value_data}
+use Rattle.data_records.proofs.Holding.{each-found, filtered-ids}
 use Rattle.data_records.proofs.Searches.{find-seen}
 use Rattle.data_records.proofs.Tables.{any-found}
 use Rattle.data_meaning.specs.Meaning.{Env, value_of, member, meets, passes, is_among, id_of_record}
@@ -53,42 +51,6 @@ id_is id r = r.id == id
 abbrev ids_by : List code_record.Record → List ℕ
 ids_by rs = map (λ (r : code_record.Record). r.id) rs
 
-differs : (a b : ℕ) → nat_cmp a b ≡ Less → (a == b) ≡ false
-differs a b less = grind (arith, nat_tests)
-
-found-later : (r : code_record.Record) (all rs : List code_record.Record) → AllByRecursion (λ id. nat_cmp r.id id ≡ Less) (ids_by rs)
-    → AllByRecursion (λ (u : code_record.Record). find (id_is u.id) all ≡ Some u) rs
-    → AllByRecursion (λ (u : code_record.Record). find (id_is u.id) (r ∷ all) ≡ Some u) rs
-found-later r all [] above found = tt
-found-later r all (u ∷ rs) above found = (
-  ap (λ b. cond b (Some r) (find (id_is u.id) all)) (differs r.id u.id above.0) ∙ found.0,
-  found-later r all rs above.1 found.1,
-)
-
--- each is the first that has its id
-each-found : (rs : List code_record.Record) → IsStrictlySortedBy nat_cmp (ids_by rs) → AllByRecursion (λ (r : code_record.Record). find (id_is r.id) rs ≡ Some r) rs
-unfolding IsStrictlySortedBy
-each-found [] up = tt
-each-found (r ∷ rs) up = (
-  ap (λ b. cond b (Some r) (find (id_is r.id) rs)) (eq-eqb r.id r.id refl),
-  found-later r rs rs up.0 (each-found rs up.1),
-)
-
--- the ids of those that pass one test are those of all ids that pass another
-filtered-ids : (p : code_record.Record → Bool) (q : ℕ → Bool) (rs : List code_record.Record) → AllByRecursion (λ (r : code_record.Record). q r.id ≡ p r) rs
-    → map (λ (r : code_record.Record). r.id) (filter p rs) ≡ filter q (map (λ (r : code_record.Record). r.id) rs)
-filtered-ids p q [] same = refl
-filtered-ids p q (r ∷ rs) same =
-    let later = filtered-ids p q rs same.1 in
-    let ids = λ (us : List code_record.Record). map (λ (u : code_record.Record). u.id) us in
-    let these = filter p rs in
-    let those = filter q (ids rs) in
-    elim (p r) as (λ (b : Bool). ids (cond b (r ∷ these) these) ≡ cond b (r.id ∷ those) those) [
-      | true ↦ ap (λ ns. r.id ∷ ns) later
-      | false ↦ later
-    ]
-    ∙ ap (λ b. cond b (r.id ∷ those) those) (sym same.0)
-
 -- ---- what a search finds
 
 -- the record that is found by its id
@@ -116,31 +78,83 @@ module _ (d : Database) (m n id : ℕ) (who : Principal) (is : who ≡ Rec n id)
       ap (is_among m (ids_of d m)) is ∙ ap (λ b. b && list_any (λ i. i == id) (ids_of d m)) (eq-eqb n m same) ∙ any-found id (records_of d m) ∙ ap is_some (sym found)
   record-missing (Some r) found = tt
 
+-- ---- those of the ids that pass
+
+each-there : (xs all : List ℕ) → ((y : ℕ) → list_any (λ i. i == y) xs ≡ true → list_any (λ i. i == y) all ≡ true) → AllByRecursion (λ y. list_any (λ i. i == y) all ≡ true) xs
+each-there [] all more = tt
+each-there (x ∷ xs) all more = (
+  more x (ap (λ b. b || list_any (λ i. i == x) xs) (eq-eqb x x refl)),
+  each-there xs all (λ y there. more y (or-right (x == y) (list_any (λ i. i == y) xs) there)),
+)
+  where
+    or-right : (a b : Bool) → b ≡ true → (a || b) ≡ true
+    or-right true b h = refl
+    or-right false b h = h
+
+filters-agree : (p q : ℕ → Bool) (xs : List ℕ) → AllByRecursion (λ y. p y ≡ q y) xs → filter p xs ≡ filter q xs
+filters-agree p q [] same = refl
+filters-agree p q (x ∷ xs) same = ap (λ b. cond b (x ∷ filter p xs) (filter p xs)) same.0 ∙ ap (λ ys. cond (q x) (x ∷ ys) ys) (filters-agree p q xs same.1)
+
+-- a filter of those that another keeps, where it keeps fewer
+narrowed : (p q : ℕ → Bool) → ((y : ℕ) → p y ≡ true → q y ≡ true) → (xs : List ℕ) → filter p (filter q xs) ≡ filter p xs
+narrowed p q fewer [] = refl
+narrowed p q fewer (x ∷ xs) =
+    elim (q x) as (λ (b : Bool). q x ≡ b → filter p (cond b (x ∷ filter q xs) (filter q xs)) ≡ cond (p x) (x ∷ filter p xs) (filter p xs)) [
+      | true ↦ λ is. ap (λ ys. cond (p x) (x ∷ ys) ys) (narrowed p q fewer xs)
+      | false ↦ λ is.
+          elim (p x) as (λ (b : Bool). p x ≡ b → filter p (filter q xs) ≡ cond b (x ∷ filter p xs) (filter p xs)) [
+            | true ↦ λ passes. let h = fewer x passes in cc
+            | false ↦ λ passes. narrowed p q fewer xs
+          ] refl
+    ] refl
+
+module _ (d : Database) (m : ℕ) (tests : List Test) where
+  abbrev passes_by : ℕ → Bool
+  passes_by y = list_all (passes_in (slots_of d m y)) tests
+
+  abbrev passes_where : code_record.Record → Bool
+  passes_where r = list_all (passes_in (map slot_data r.slots)) tests
+
+  slots-agree : (all rs : List code_record.Record) → map record_data all ≡ records_of d m → AllByRecursion (λ (r : code_record.Record). find (id_is r.id) all ≡ Some r) rs
+      → AllByRecursion (λ (r : code_record.Record). passes_by r.id ≡ passes_where r) rs
+  slots-agree all [] same found = tt
+  slots-agree all (r ∷ rs) same found =
+      let here : find (λ (u : Record). u.id == r.id) (records_of d m) ≡ Some (record_data r)
+      = ap (find (λ (u : Record). u.id == r.id)) (sym same) ∙ find-seen (λ (u : Record). u.id == r.id) record_data all ∙ ap (option_map record_data) found.0 in
+      (ap (λ slots. list_all (passes_in slots) tests) (found-slots d m r.id (record_data r) here), slots-agree all rs same found.1)
+
+  -- the ids of the records that pass are the ids whose records pass
+  pub passing-ids : {T E : Type 0} (items : T → List ℕ) (rs : List code_record.Record) (r : Result T E) → map record_data rs ≡ records_of d m → IsStrictlyIncreasing (ids_by rs)
+      → IfOk r (λ t. items t ≡ map (λ (u : code_record.Record). u.id) (filter passes_where rs)) → IfOk r (λ t. items t ≡ filter passes_by (ids_of d m))
+  passing-ids items rs (Ok t) same up h =
+      let ids : map (λ (r : code_record.Record). r.id) rs ≡ ids_of d m = sym (ids-seen rs) ∙ ap (map (λ (r : Record). r.id)) same in
+      h ∙ filtered-ids passes_where passes_by rs (slots-agree rs rs same (each-found rs (sorted_from_strictly_increasing (ids_by rs) up))) ∙ ap (filter passes_by) ids
+  passing-ids items rs (Err e) same up h = tt
+
+  -- those that pass, among ids of records that hold an id which the tests ask for
+  pub passing-among : {T E : Type 0} (items : T → List ℕ) (q : ℕ → Bool) (among : List ℕ) (r : Result T E) → ((y : ℕ) → passes_by y ≡ true → q y ≡ true)
+      → among ≡ filter q (ids_of d m) → IfOk r (λ t. items t ≡ filter passes_by among) → IfOk r (λ t. items t ≡ filter passes_by (ids_of d m))
+  passing-among items q among (Ok t) asked is h = h ∙ ap (filter passes_by) is ∙ narrowed passes_by q asked (ids_of d m)
+  passing-among items q among (Err e) asked is h = tt
+
 module _ (d : Database) (env : Env) (m : ℕ) (tests : List Test) (filters : Filters)
     (told : (k id : ℕ) → meets d env k filters id ≡ list_all (passes_in (slots_of d k id)) tests) where
-  abbrev passes_all : code_record.Record → Bool
-  passes_all r = list_all (passes_in (map slot_data r.slots)) tests
+  agrees : (xs : List ℕ) → AllByRecursion (λ y. list_any (λ i. i == y) (ids_of d m) ≡ true) xs
+      → AllByRecursion (λ y. passes_by d m tests y ≡ member d env (trees.find m filters) (Rec m y)) xs
+  agrees [] there = tt
+  agrees (y ∷ xs) there = (
+    sym (
+        ap (λ b. (b && list_any (λ i. i == y) (ids_of d m)) && meets d env m filters y) (eq-eqb m m refl)
+        ∙ ap (λ b. b && meets d env m filters y) there.0
+        ∙ told m y
+        ),
+    agrees xs there.1,
+  )
 
-  agrees : (all : List code_record.Record) → map record_data all ≡ records_of d m → (r : code_record.Record) → find (id_is r.id) all ≡ Some r
-      → member d env (trees.find m filters) (Rec m r.id) ≡ passes_all r
-  agrees all same r is =
-      let found : find (λ (u : Record). u.id == r.id) (records_of d m) ≡ Some (record_data r)
-      = ap (find (λ (u : Record). u.id == r.id)) (sym same) ∙ find-seen (λ (u : Record). u.id == r.id) record_data all ∙ ap (option_map record_data) is in
-      ap (λ b. (b && list_any (λ i. i == r.id) (ids_of d m)) && meets d env m filters r.id) (eq-eqb m m refl)
-      ∙ ap (λ b. b && meets d env m filters r.id) (found-there d m r.id (record_data r) found)
-      ∙ told m r.id ∙ ap (λ slots. list_all (passes_in slots) tests) (found-slots d m r.id (record_data r) found)
-
-  all-agree : (all rs : List code_record.Record) → map record_data all ≡ records_of d m → AllByRecursion (λ (r : code_record.Record). find (id_is r.id) all ≡ Some r) rs
-      → AllByRecursion (λ (r : code_record.Record). member d env (trees.find m filters) (Rec m r.id) ≡ passes_all r) rs
-  all-agree all [] same found = tt
-  all-agree all (r ∷ rs) same found = (agrees all same r found.0, all-agree all rs same found.1)
-
-  pub within-found : (set : TSet) (found : List ℕ) (rs : List code_record.Record) → set_of set ≡ trees.find m filters → map record_data rs ≡ records_of d m → IsStrictlyIncreasing (ids_by rs)
-      → found ≡ map (λ (r : code_record.Record). r.id) (filter passes_all rs) → found ≡ filter (λ y. member d env (set_of set) (Rec m y)) (ids_of d m)
-  within-found set found rs is same up h =
-      let inside : ℕ → Bool = λ y. member d env (trees.find m filters) (Rec m y) in
-      let ids : map (λ (r : code_record.Record). r.id) rs ≡ ids_of d m = sym (ids-seen rs) ∙ ap (map (λ (r : Record). r.id)) same in
-      h ∙ filtered-ids passes_all inside rs (all-agree rs rs same (each-found rs (sorted_from_strictly_increasing (ids_by rs) up))) ∙ ap (filter inside) ids
+  pub within-found : (set : TSet) (found : List ℕ) → set_of set ≡ trees.find m filters → found ≡ filter (passes_by d m tests) (ids_of d m)
+      → found ≡ filter (λ y. member d env (set_of set) (Rec m y)) (ids_of d m)
+  within-found set found is h =
+      h ∙ filters-agree (passes_by d m tests) (λ y. member d env (trees.find m filters) (Rec m y)) (ids_of d m) (agrees (ids_of d m) (each-there (ids_of d m) (ids_of d m) (λ y there. there)))
       ∙ ap (λ u. filter (λ y. member d env u (Rec m y)) (ids_of d m)) (sym is)
 
   -- the principal is a record that is there
@@ -151,20 +165,18 @@ module _ (d : Database) (env : Env) (m : ℕ) (tests : List Test) (filters : Fil
       ∙ ap (λ u. member d env u who) (sym is)
 
 -- the ids of the records that pass the tests of a search
-pub searched : {T E : Type 0} (items : T → List ℕ) (d : Database) (env : Env) (m n : ℕ) (set : TSet) (filters these : List TFilter) (tests those : List Test)
-    (rs : List code_record.Record) (r : Result T E)
+pub searched : {T E : Type 0} (items : T → List ℕ) (d : Database) (env : Env) (m n : ℕ) (set : TSet) (filters these : List TFilter) (tests those : List Test) (r : Result T E)
     → set ≡ s.Find n filters → n ≡ m → these ≡ filters → those ≡ tests
     → ((k id : ℕ) → meets d env k (filters_of (map filter_of these)) id ≡ list_all (passes_in (slots_of d k id)) tests)
-    → map record_data rs ≡ records_of d m → IsStrictlyIncreasing (ids_by rs)
-    → IfOk r (λ t. items t ≡ map (λ (u : code_record.Record). u.id) (filter (λ (u : code_record.Record). list_all (passes_in (map slot_data u.slots)) those) rs))
+    → IfOk r (λ t. items t ≡ filter (λ y. list_all (passes_in (slots_of d m y)) those) (ids_of d m))
     → IfOk r (λ t. items t ≡ filter (λ y. member d env (set_of set) (Rec m y)) (ids_of d m))
-searched items d env m n set filters these tests those rs (Ok t) is same same_filters same_tests told all up h =
+searched items d env m n set filters these tests those (Ok t) is same same_filters same_tests told h =
     let found : set_of set ≡ trees.find m (filters_of (map filter_of these))
     = ap set_of is ∙ Find_is n filters ∙ ap (λ k. trees.find k (filters_of (map filter_of filters))) same
     ∙ ap (λ fs. trees.find m (filters_of (map filter_of fs))) (sym same_filters) in
-    within-found d env m tests (filters_of (map filter_of these)) told set (items t) rs found all up
-    (h ∙ ap (λ ts. map (λ (u : code_record.Record). u.id) (filter (λ (u : code_record.Record). list_all (passes_in (map slot_data u.slots)) ts) rs)) same_tests)
-searched items d env m n set filters these tests those rs (Err e) is same same_filters same_tests told all up h = tt
+    within-found d env m tests (filters_of (map filter_of these)) told set (items t) found
+    (h ∙ ap (λ ts. filter (λ y. list_all (passes_in (slots_of d m y)) ts) (ids_of d m)) same_tests)
+searched items d env m n set filters these tests those (Err e) is same same_filters same_tests told h = tt
 
 -- a filter of the code in front of others, by its parts
 abbrev HasParts : FiltersMore → Type 0

@@ -24,4 +24,5 @@ mod sets;
 mod touching;
 
 pub use answers::{allows, init_value, members, touched};
+pub use parts::{are_equal, passes};
 pub use sets::PrincipalSet;

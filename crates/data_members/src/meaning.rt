@@ -14,7 +14,7 @@ ghost use Rattle.data_meaning.specs.Meaning as meaning;
 ghost use Rattle.data_members.specs.Tests.{passes_in};
 ghost use Rattle.data_members.specs.Variables.{env_data, seen_data, content_of, first_value};
 
-use crate::finding::{Test, ids_passing, passes_all, test_of};
+use crate::finding::{Test, ids_found, passes_all, test_of};
 use crate::parts::{are_equal, id, ids, is_less, same_truth, truth};
 use crate::principals::{is_among, is_record, is_static};
 use crate::seen::Seen;
@@ -113,6 +113,50 @@ fn record_of(database: &Database, m: ModelNo, who: Principal) -> Option<&Record>
     match who {
         Principal::Static(_) => None,
         Principal::Rec(n, id) => { if n == m { database.get(m, id) } else { None } }
+    }
+}
+
+/// The id that the variable holds that so many stand outside of, if it holds one.
+fn id_at<'d>(depth: u32, env: &[Value]) -> Option<Seen<'d>>
+    ensures { IfSome result (λ v. seen_data v
+        ≡ slice_index_or (env_data env.now) depth stored.Nothing) }
+{
+    match env.get(depth as usize) {
+        Some(Value::Id(id)) => Some(Seen::Made(Value::Id(*id))),
+        _ => None,
+    }
+}
+
+/// The value of an expression that is a path from a record, as `u.manager.age`.
+fn path_value<'d>(database: &'d Database, e: &TExpr, env: &[Value]) -> Option<Seen<'d>>
+    ensures { IfSome result (λ v. seen_data v
+        ≡ meaning.value_of database.now (env_data env.now) (view.expr_of e.now)) }
+{
+    match e {
+        TExpr::Var(depth, _) => id_at(*depth, env),
+        TExpr::Get(of, m, f) => {
+            let of = path_value(database, of.get(), env)?;
+            Some(field(database, *m, id(of.get()), *f))
+        }
+        _ => None,
+    }
+}
+
+/// The value of an expression. A path, as most policies have, is followed first: `value` has room
+/// for the parts of every form, and to clear that takes longer than the path.
+#[cycle(meaning)]
+fn quick_value<'d>(
+    alloc: Global,
+    database: &'d Database,
+    e: &TExpr,
+    env: &[Value],
+) -> Result<Seen<'d>, AllocError>
+    ensures { IfOk result (λ v. seen_data v
+        ≡ meaning.value_of database.now (env_data env.now) (view.expr_of e.now)) }
+{
+    match path_value(database, e, env) {
+        Some(v) => Ok(v),
+        None => value(alloc, database, e, env),
     }
 }
 
@@ -250,7 +294,7 @@ pub(crate) fn holds(
             None => Ok(false),
         },
         TSet::Path(m, e) => {
-            let held = value(alloc, database, e, env)?;
+            let held = quick_value(alloc, database, e, env)?;
             Ok(is_among(*m, ids(held.get()), who))
         }
         TSet::MapS(source, n, _, m, e) => {
@@ -318,7 +362,7 @@ fn is_item(
     match item {
         TItem::Static(n) => Ok(is_static(*n, who)),
         TItem::One(m, e) => {
-            let v = value(alloc, database, e, env)?;
+            let v = quick_value(alloc, database, e, env)?;
             Ok(is_record(*m, v.get(), who))
         }
     }
@@ -357,7 +401,7 @@ fn value_in(
         (first_value (view.filter_of filter.now no_filters))) }
 {
     let TFilter::Test(_, _, e) = filter;
-    value(alloc, database, e, env)?.into_value(alloc)
+    quick_value(alloc, database, e, env)?.into_value(alloc)
 }
 
 /// The ids of the records of the model that are in a set, in their order.
@@ -377,7 +421,7 @@ pub(crate) fn ids_within(
         && *n == m
     {
         let tests = tests_of(alloc, database, filters.as_slice(), env)?;
-        return ids_passing(alloc, database.records(m), tests.as_slice());
+        return ids_found(alloc, database, m, tests.as_slice());
     }
     let mut found = Vec::new(alloc);
     for record in database.records(m) {
@@ -402,7 +446,7 @@ fn value_with<'d>(
         ++ stored.Id id ∷ []) (view.expr_of e.now)) }
 {
     let env = extended(alloc, env, &Value::Id(id))?;
-    value(alloc, database, e, env.as_slice())
+    quick_value(alloc, database, e, env.as_slice())
 }
 
 /// Whether a principal is in a set with the record of this id as one more variable.

@@ -83,7 +83,7 @@ pub(crate) fn ids(v: &Value) -> &[u64]
 }
 
 /// Whether two truth values, numbers, texts or ids are equal.
-pub(crate) fn are_equal(v: &Value, w: &Value) -> bool
+pub fn are_equal(v: &Value, w: &Value) -> bool
     ensures { result ≡ meaning.are_equal (value_data v.now) (value_data w.now) }
 {
     match v {
@@ -124,7 +124,7 @@ fn compares(op: CmpOp, v: &Value, w: &Value) -> bool
 }
 
 /// Whether what a field holds passes the test of a filter with this value.
-pub(crate) fn passes(op: FilterOp, held: &Value, v: &Value) -> bool
+pub fn passes(op: FilterOp, held: &Value, v: &Value) -> bool
     ensures { result ≡ meaning.passes op (value_data held.now) (value_data v.now) }
 {
     match op {

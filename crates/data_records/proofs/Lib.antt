@@ -15,3 +15,8 @@ pub mod Real
 pub mod FieldSet
 pub mod RowIn
 pub mod RowOut
+pub mod Undone
+pub mod Amid
+pub mod Entries
+pub mod Noted
+pub mod Holding

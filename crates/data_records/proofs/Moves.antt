@@ -2,12 +2,11 @@
 use Rattle.std.proofs.Common.{◌≡◌, ℕ, zero, suc, ◌-◌, ◌<◌, ◌≤◌, Bool, true, false, List, [], ◌∷◌, ◌++◌, refl, ap, ◌∙◌, arith, cond, get_or, set, length, map, take}
 use Rattle.std.specs.Prelude.{filter, Result, Ok, Err, OnOk, OnErr, is_err}
 use Rattle.data_meaning.specs.Values.{Value}
-use Rattle.data_meaning.specs.Database.{Slot, Record}
-use Rattle.data_records.specs.declared.record.Slot as code_slot
+use Rattle.data_meaning.specs.Database.{Record}
 use Rattle.data_records.specs.declared.record.Record as code_record
 use Rattle.data_records.specs.Moved.{with_slot, with_slots}
 use Rattle.data_records.specs.TakenBack.{without_last, without_last_in, taken_back}
-use Rattle.data_records.specs.Views.{slot_data, record_data}
+use Rattle.data_records.specs.Views.{record_data}
 
 -- a filter of a list that another list is made from
 pub filter-seen : {X Y : Type 0} (seen : X → Y) (p : Y → Bool) (xs : List X) → map seen (filter (λ x. p (seen x)) xs) ≡ filter p (map seen xs)
@@ -20,17 +19,17 @@ filter-seen seen p (x ∷ xs) =
 
 -- ---- the last value
 
-pub last-off : (slots : List code_slot.Slot) → map slot_data (take (length slots - 1) slots) ≡ without_last (map slot_data slots)
-last-off [] = refl
-last-off (slot ∷ []) = refl
-last-off (slot ∷ (other ∷ slots)) =
-    let n : length (slot ∷ (other ∷ slots)) - 1 ≡ suc (length (other ∷ slots) - 1) = omega arith in
-    ap (λ k. map slot_data (take k (slot ∷ (other ∷ slots)))) n ∙ ap (λ us. slot_data slot ∷ us) (last-off (other ∷ slots))
+pub last-off : {X Y : Type 0} (seen : X → Y) (xs : List X) → map seen (take (length xs - 1) xs) ≡ without_last (map seen xs)
+last-off seen [] = refl
+last-off seen (x ∷ []) = refl
+last-off seen (x ∷ (y ∷ xs)) =
+    let n : length (x ∷ (y ∷ xs)) - 1 ≡ suc (length (y ∷ xs) - 1) = omega arith in
+    ap (λ k. map seen (take k (x ∷ (y ∷ xs)))) n ∙ ap (λ ys. seen x ∷ ys) (last-off seen (y ∷ xs))
 
-without-push : (slots : List Slot) (slot : Slot) → without_last (slots ++ slot ∷ []) ≡ slots
-without-push [] slot = refl
-without-push (one ∷ []) slot = refl
-without-push (one ∷ (other ∷ slots)) slot = ap (λ us. one ∷ us) (without-push (other ∷ slots) slot)
+pub without-push : {A : Type 0} (xs : List A) (x : A) → without_last (xs ++ x ∷ []) ≡ xs
+without-push [] x = refl
+without-push (y ∷ []) x = refl
+without-push (y ∷ (z ∷ xs)) x = ap (λ ys. y ∷ ys) (without-push (z ∷ xs) x)
 
 back-off : (f : ℕ) (v : Value) (r : Record) → without_last_in (with_slot f v r) ≡ r
 back-off f v r = ap (λ us. record { id = r.id; slots = us }) (without-push r.slots (record { field = f; value = v }))

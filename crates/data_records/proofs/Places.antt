@@ -11,14 +11,14 @@ use Rattle.type_schema.specs.declared.schemas.ModelInfo as code_model
 use Rattle.type_schema.specs.Schema.{FieldInfo}
 use Rattle.type_schema.specs.SchemaViews.{field_info_of, model_info_of}
 use Rattle.data_meaning.specs.Values.{Value, Nothing, ids_in}
-use Rattle.data_meaning.specs.Database.{Slot, Record, Database, records_of, slots_of, has_record, field_at}
+use Rattle.data_meaning.specs.Database.{Slot, Record, Table, Database, table_of, records_of, slots_of, has_record, field_at}
 use Rattle.data_records.specs.declared.record.Record as code_record
 use Rattle.data_records.specs.declared.references.Reference.{Reference}
 use Rattle.data_records.specs.declared.table.Table as code_table
 use Rattle.data_records.specs.Changed.{has_field}
 use Rattle.data_records.specs.Inserted.{is_there_or}
 use Rattle.data_records.specs.Kept.{IsKept}
-use Rattle.data_records.specs.Removed.{first_given, is_of_model, names, reference_from, without_record}
+use Rattle.data_records.specs.Removed.{first_given, is_of_model, names, reference_from, without_first, without_record, without_record_in}
 use Rattle.data_records.specs.Rising.{AreRising}
 use Rattle.data_records.specs.Room.{record_weight, record_count, total_weight}
 use Rattle.data_records.specs.Shape.{dangling_in, model_named}
@@ -121,6 +121,28 @@ kept-taken count weight w d m id at kept is =
     let one : (count - 1) + 1 ≡ count = omega (arith, counted, one-record d m id at) in
     let rest : w + record_weight at.row ≡ weight = omega (arith, weighed, is, row-within d m id at) in
     kept-without (count - 1) w d m id at (subst (λ n. IsKept n (w + record_weight at.row) d) (sym one) (subst (λ n. IsKept count n d) (sym rest) kept))
+
+without-none : (id : ℕ) (rs : List Record) → None ≡ find (id_is id) rs → rs ≡ without_first (id_is id) rs
+without-none id [] none = refl
+without-none id (r ∷ rs) none =
+    elim (r.id == id) as (λ (b : Bool). None ≡ cond b (Some r) (find (id_is id) rs) → r ∷ rs ≡ (if b then rs else r ∷ without_first (id_is id) rs)) [
+      | true ↦ λ h. cc
+      | false ↦ λ h. ap (λ us. r ∷ us) (without-none id rs h)
+    ] none
+
+none-mapped : {A B : Type 0} (g : A → B) (o : Option A) → None ≡ option_map g o → None ≡ o
+none-mapped g None none = refl
+none-mapped g (Some x) none = cc
+
+-- no such record, no change
+pub none-erased : {A : Type 0} (m id : ℕ) (g : Record → A) (d : Database) → None ≡ option_map g (find (id_is id) (records_of d m)) → d ≡ without_record m id d
+none-erased m id g [] none = refl
+none-erased m id g (t ∷ d) none =
+    elim (t.model == m) as (λ (b : Bool). None ≡ option_map g (find (id_is id) (option_map_or (λ (u : Table). u.records) (cond b (Some t) (table_of d m)) []))
+    → t ∷ d ≡ (if b then without_record_in id t ∷ d else t ∷ without_record m id d)) [
+      | true ↦ λ h. ap (λ rs. record { model = t.model; next = t.next; records = rs } ∷ d) (without-none id t.records (none-mapped g (find (id_is id) t.records) h))
+      | false ↦ λ h. ap (λ ts. t ∷ ts) (none-erased m id g d h)
+    ] none
 
 pub if-found : {A : Type 0} (P : A → Type 0) (o : Option A) (x : A) → o ≡ Some x → IfSome o P → P x
 if-found P None x is h = cc

@@ -58,7 +58,7 @@ any-without i id other (r ∷ rs) h =
 above : (a y : ℕ) → nat_cmp a y ≡ Less → (y == a) ≡ false
 above a y h = grind (arith, nat_tests)
 
-left-differ : (id : ℕ) (rs : List Record) → IsStrictlySortedBy nat_cmp (ids_by rs) → AllByRecursion (λ (r : Record). (r.id == id) ≡ false) (without_first (id_is id) rs)
+pub left-differ : (id : ℕ) (rs : List Record) → IsStrictlySortedBy nat_cmp (ids_by rs) → AllByRecursion (λ (r : Record). (r.id == id) ≡ false) (without_first (id_is id) rs)
 unfolding IsStrictlySortedBy
 left-differ id [] up = tt
 left-differ id (r ∷ rs) up =

@@ -5,6 +5,7 @@ pub mod Keeping
 pub mod Kept
 pub mod Moved
 pub mod Principals
+pub mod Namings
 pub mod Public
 pub mod Removed
 pub mod Renumbered
@@ -13,4 +14,5 @@ pub mod Room
 pub mod Rows
 pub mod Shape
 pub mod TakenBack
+pub mod Undone
 pub mod Views

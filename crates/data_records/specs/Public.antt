@@ -8,6 +8,7 @@ pub use Rattle.data_records.specs.Kept.{AreGiven}
 pub use Rattle.data_records.specs.Rising.{AreRising}
 pub use Rattle.data_records.specs.Changed.{with_field, has_field, HasRoomFor, IsFitting, IsUnfit, Sets}
 pub use Rattle.data_records.specs.Moved.{with_table, without_table, without_slot, without_field, with_slot, with_slots, with_new_field}
+pub use Rattle.data_records.specs.Undone.{without_newest, Undoes}
 pub use Rattle.data_records.specs.Removed.{first_reference, without_record, IsHeld, Removes}
 pub use Rattle.data_records.specs.Principals.{is_principal_of}
 pub use Rattle.data_records.specs.Renumbered.{new_model, new_field, HasNewNumbers, renumbered}

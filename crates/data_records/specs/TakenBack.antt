@@ -1,11 +1,11 @@
 -- Values that are taken back.
 use Rattle.std.specs.Prelude.{ℕ, zero, suc, List, [], ◌∷◌, map}
-use Rattle.data_meaning.specs.Database.{Slot, Record}
+use Rattle.data_meaning.specs.Database.{Record}
 
-abbrev pub without_last : List Slot → List Slot
+abbrev pub without_last : {A : Type 0} → List A → List A
 without_last [] = []
-without_last (slot ∷ []) = []
-without_last (slot ∷ (other ∷ slots)) = slot ∷ without_last (other ∷ slots)
+without_last (x ∷ []) = []
+without_last (x ∷ (y ∷ xs)) = x ∷ without_last (y ∷ xs)
 
 abbrev pub without_last_in : Record → Record
 without_last_in r = record r { slots = without_last r.slots }

@@ -1,45 +1,44 @@
 //! Databases.
 
-ghost use Rattle.std.specs.Prelude.{◌≡◌, ◌==◌, ◌+◌, ◌-◌, ◌<◌, ◌≤◌, ◌^◌, length, map, option_copied};
-ghost use Rattle.std.specs.Prelude.{position, true, IfSome, MatchOption};
-ghost use Rattle.std.specs.Prelude.{IfErr, IfOk, OnErr, OnOk};
+ghost use Rattle.std.specs.Prelude.{◌≡◌, ◌==◌, ◌-◌, ◌<◌, ◌^◌, length, map, option_copied};
+ghost use Rattle.std.specs.Prelude.{position, IfErr, IfOk, OnErr, OnOk};
 ghost use Rattle.std.specs.List.{find};
 ghost use Rattle.std.specs.List.Sorted.{IsStrictlyIncreasing};
 ghost use Rattle.std.specs.Option.{option_map};
-ghost use Rattle.data_meaning.specs.Database.{records_of, slots_of, has_record, field_at};
+ghost use Rattle.data_meaning.specs.Database.{records_of, slots_of, has_record};
 ghost use Rattle.data_records.specs.Inserted.{Inserts, IsAdmitted, IsRefused, change_table, empty_of};
 ghost use Rattle.data_records.specs.Inserted.{empty_table, next_of, with_record};
 ghost use Rattle.data_records.specs.Kept.{AreGiven};
 ghost use Rattle.data_records.specs.Rising.{AreRising};
 ghost use Rattle.data_records.specs.Room.{HasRoom, most_records, most_weight, record_count};
-ghost use Rattle.data_records.specs.Room.{record_weight, row_weight, total_weight, weight_of};
+ghost use Rattle.data_records.specs.Room.{record_weight, row_weight, total_weight};
 ghost use Rattle.data_records.specs.Views.{record_data, table_data, value_data};
-ghost use Rattle.data_records.specs.Changed.{has_field, HasRoomFor, IsFitting, IsUnfit, Sets};
-ghost use Rattle.data_records.specs.Changed.{with_field};
 ghost use Rattle.data_records.specs.Principals.{is_principal_of};
-ghost use Rattle.data_records.specs.Removed.{Removes, without_record};
 ghost use Rattle.data_records.specs.Renumbered.{HasNewNumbers, field_count, renumbered};
 ghost use Rattle.data_records.specs.Renumbered.{renumbered_table};
-ghost use Rattle.type_schema.specs.SchemaViews.{field_info_of, model_info_of, schema_of};
+ghost use Rattle.type_schema.specs.SchemaViews.{model_info_of, schema_of};
 
 use crate::data_err::{DataErr, Limit};
+use crate::index::Index;
 use crate::limits::{MOST_RECORDS, MOST_WEIGHT};
 use crate::principals::{has_static, is_marked};
-use crate::record::{Record, Slot};
-use crate::references::first_reference;
+use crate::record::Record;
 use crate::rows::{first_dangling, first_wrong, push_slots};
-use crate::shape::{Coming, dangling_in, has_shape};
+use crate::shape::Coming;
 use crate::slots::Slots;
 use crate::table::{Table, record_in};
 use crate::value::Value;
-use crate::weights::{count_in, slots_weight, weight, weight_in, without_row, without_value};
+use crate::weights::{count_in, weight_in, without_row};
 use data_meaning::Principal;
 use data_meaning::limits::LAST_ID;
 use std::alloc::{AllocError, Global};
 use std::marker::Model;
-use type_schema::{FieldInfo, FieldNo, ModelInfo, ModelNo, Schema};
+use type_schema::{FieldNo, ModelInfo, ModelNo, Schema};
 
+mod fields;
+mod holding;
 mod moves;
+mod removals;
 
 /// A database: for each model its records by rising id. Contracts see its tables.
 #[derive(Drop)]
@@ -47,6 +46,7 @@ pub struct Database {
     tables: Vec<Table>,
     count: usize,
     weight: u64,
+    index: Index,
 }
 
 impl Model for Database {
@@ -63,7 +63,10 @@ impl Model for Database {
 
     ghost view = { λ d. map table_data d.tables.items };
 
-    ghost invariant = { λ d. IsKept d.count d.weight (map table_data d.tables.items) };
+    ghost use Rattle.data_records.specs.Namings.{IsIndexed};
+
+    ghost invariant = { λ d. IsKept d.count d.weight (map table_data d.tables.items) ×
+        IsIndexed d.index (map table_data d.tables.items) };
 }
 
 /// The table of a model.
@@ -226,7 +229,13 @@ impl Database {
     }
 
     /// Puts a record with the next id into the table of the model.
-    fn push(&mut self, m: ModelNo, made: Record, weight: u64) -> Result<(), AllocError>
+    fn push(
+        &mut self,
+        alloc: Global,
+        m: ModelNo,
+        made: Record,
+        weight: u64,
+    ) -> Result<(), AllocError>
         requires id { made.id ≡ next_of self.old m }
         requires unspent { made.id < 18446744073709551615 }
         requires weight { weight ≡ record_weight (record_data made) }
@@ -240,6 +249,8 @@ impl Database {
             Some(place) => place,
             None => return Ok(()),
         };
+        self.index
+            .note_all(alloc, m, made.id, made.slots.as_slice());
         let table = &mut self.tables[place];
         table.push(made)?;
         self.count += 1;
@@ -256,6 +267,7 @@ impl Database {
             tables,
             count: 0,
             weight: 0,
+            index: Index::none(),
         })
     }
 
@@ -274,6 +286,7 @@ impl Database {
             tables,
             count,
             weight,
+            index: Index::none(),
         })
     }
 
@@ -286,6 +299,7 @@ impl Database {
             tables,
             count: self.count,
             weight: self.weight,
+            index: Index::none(),
         })
     }
 
@@ -307,154 +321,8 @@ impl Database {
             id,
             slots: Slots::from_vec(slots),
         };
-        self.push(info.number, record, weight)?;
+        self.push(alloc, info.number, record, weight)?;
         Ok(id)
-    }
-}
-
-impl Database {
-    /// What it weighs with a value in place of one that it holds, or None where that is too much.
-    fn reweighed(&self, old: &Value, v: &Value) -> Option<u64>
-        requires { weight_of (value_data old.now) ≤ total_weight self.now }
-        ensures { MatchOption result
-            (HasRoomFor self.now (value_data old.now) (value_data v.now) → ⊥)
-            (λ weight. HasRoomFor self.now (value_data old.now) (value_data v.now) ×
-            (weight + weight_of (value_data old.now)
-            ≡ total_weight self.now + weight_of (value_data v.now))) }
-    {
-        let total = self.weight;
-        let room = self.room();
-        let left = without_value(room + weight(old), v)?;
-        Some(total + room - left)
-    }
-
-    /// What it weighs with the value in the field of the record, or why the value is refused.
-    fn fit(&self, m: ModelNo, id: u64, field: &FieldInfo, v: &Value) -> Result<u64, DataErr>
-        ensures fits { OnOk result
-            (IsFitting self.now m id (field_info_of field.now) (value_data v.now)) }
-        ensures weight { IfOk result (λ weight. weight
-            + weight_of (field_at self.now m id field.now.number)
-            ≡ total_weight self.now + weight_of (value_data v.now)) }
-        ensures unfit { IfErr result
-            (IsUnfit self.now m id (field_info_of field.now) (value_data v.now)) }
-    {
-        let old = match self.value(m, id, field.number) {
-            Some(old) => old,
-            None => return Err(DataErr::NoRecord),
-        };
-        let number = field.number;
-        if !has_shape(v, field.ty) {
-            return Err(DataErr::WrongShape { field: number });
-        }
-        let coming = Coming { model: m, id };
-        match dangling_in(self, coming, field.ty, v) {
-            Some(id) => return Err(DataErr::Dangling { field: number, id }),
-            None => {}
-        }
-        match self.reweighed(old, v) {
-            Some(weight) => Ok(weight),
-            None => Err(DataErr::Full {
-                what: Limit::Weight,
-            }),
-        }
-    }
-
-    /// Puts the value into its field of the record, with which it weighs so much.
-    fn put(&mut self, m: ModelNo, id: u64, slot: Slot, weight: u64)
-        requires there { has_field self.old m id slot.field ≡ true }
-        requires weight { weight + weight_of (field_at self.old m id slot.field)
-            ≡ total_weight self.old + weight_of (value_data slot.value) }
-        ensures { self.new ≡ with_field m id slot.field (value_data slot.value) self.old }
-    {
-        match place_of(self.tables.as_slice(), m) {
-            Some(place) => {
-                let table = &mut self.tables[place];
-                table.put(id, slot);
-                self.weight = weight;
-            }
-            None => {}
-        }
-    }
-
-    /// Puts a value into the field of the record.
-    ///
-    /// Refused, in this order: a record that is not there, or has no such field, a value that is
-    /// not of the field's type, an id that names no record, a weight that rises above the limit.
-    /// The database is then as it was, and so it is where memory is wanting.
-    pub fn set_field(
-        &mut self,
-        alloc: Global,
-        m: ModelNo,
-        id: u64,
-        field: &FieldInfo,
-        v: &Value,
-    ) -> Result<(), DataErr>
-        ensures { Sets self.old m id (field_info_of field.now) (value_data v.now) result self.new }
-    {
-        let weight = self.fit(m, id, field, v)?;
-        let value = v.copy(alloc)?;
-        let slot = Slot {
-            field: field.number,
-            value,
-        };
-        self.put(m, id, slot, weight);
-        Ok(())
-    }
-}
-
-impl Database {
-    /// What it weighs without the record, or None where the record is not there.
-    fn weight_without(&self, m: ModelNo, id: u64) -> Option<u64>
-        ensures { result ≡ option_map (λ r. total_weight self.now - record_weight r)
-            (find (λ r. r.id == id) (records_of self.now m)) }
-    {
-        let total = self.weight;
-        match self.get(m, id) {
-            Some(record) => Some(total - slots_weight(record.slots.as_slice())),
-            None => None,
-        }
-    }
-
-    /// Takes out the record, without which it weighs so much.
-    fn take(&mut self, m: ModelNo, id: u64, weight: u64)
-        requires there { has_record self.old m id ≡ true }
-        requires weight { IfSome (find (λ r. r.id == id) (records_of self.old m))
-            (λ r. weight ≡ total_weight self.old - record_weight r) }
-        ensures { self.new ≡ without_record m id self.old }
-    {
-        match place_of(self.tables.as_slice(), m) {
-            Some(place) => {
-                let table = &mut self.tables[place];
-                table.take(id);
-                self.count -= 1;
-                self.weight = weight;
-            }
-            None => {}
-        }
-    }
-
-    /// Removes the record.
-    ///
-    /// Refused, in this order: a record that is not there, one that a field of another record
-    /// names. The database is then as it was. The id is not given again.
-    pub fn remove(&mut self, s: &Schema, m: ModelNo, id: u64) -> Result<(), DataErr>
-        ensures { Removes (schema_of s.now) self.old m id result self.new }
-    {
-        let weight = match self.weight_without(m, id) {
-            Some(weight) => weight,
-            None => return Err(DataErr::NoRecord),
-        };
-        match first_reference(self, s.models.as_slice(), m, id) {
-            Some(named) => Err(DataErr::Referenced {
-                model: named.model,
-                id: named.id,
-                field: named.field,
-            }),
-            None => {
-                self.take(m, id, weight);
-                Ok(())
-            }
-        }
     }
 }
 
@@ -478,6 +346,7 @@ impl Database {
         requires { HasNewNumbers (schema_of s.now) }
         ensures { self.new ≡ renumbered (schema_of s.now) self.old }
     {
+        self.index = Index::none();
         renumber_tables(self.tables.as_mut_slice(), s.models.as_slice());
     }
 }

@@ -2,13 +2,14 @@
 //!
 //! | module | holds |
 //! |---|---|
-//! | `database` | `Database`; in `moves` what adds and drops its models and fields |
+//! | `database` | `Database`; in `fields` and `removals` its changes, in `moves` what adds and drops its models and fields |
 //! | `value` | `Value`, what a field holds |
 //! | `record`, `slots` | `Record`, with a value for each field |
 //! | `data_err` | `DataErr`, why a change is refused |
 //! | `shape`, `rows`, `weights` | which values and rows fit |
 //! | `table`, `columns` | the records of a model |
 //! | `references` | which fields name a record |
+//! | `index`, `holders` | which records hold which ids, noted so that they are found quickly |
 //! | `principals` | principals of a schema |
 //! | `numbers` | the numbers of a schema numbered anew |
 //! | `laws` | laws over the definitions |
@@ -20,6 +21,8 @@
 mod columns;
 mod data_err;
 mod database;
+mod holders;
+mod index;
 mod laws;
 pub mod limits;
 mod numbers;

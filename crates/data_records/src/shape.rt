@@ -16,7 +16,7 @@ use crate::value::Value;
 use type_schema::{ModelNo, TBase, TTy};
 
 /// Whether each id is below the next.
-fn is_rising(ids: &[u64]) -> bool
+pub(crate) fn is_rising(ids: &[u64]) -> bool
     ensures { IsTrue result ↔ IsStrictlyIncreasing ids.now }
 {
     let mut place = 1;

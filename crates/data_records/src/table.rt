@@ -3,6 +3,7 @@
 ghost use Rattle.std.specs.Prelude.{◌≡◌, ◌==◌, ◌<◌, ◌^◌, length, map, option_copied};
 ghost use Rattle.std.specs.Prelude.{MatchOption, IfOk, IfSome, OnOk, OnErr, Some};
 ghost use Rattle.std.specs.List.{find};
+ghost use Rattle.std.specs.Option.{option_map};
 ghost use Rattle.std.specs.List.Sorted.{IsStrictlyIncreasing};
 ghost use Rattle.data_records.specs.Inserted.{with_record};
 ghost use Rattle.data_records.specs.Changed.{with_value_in};
@@ -10,6 +11,7 @@ ghost use Rattle.data_records.specs.Removed.{without_record_in};
 ghost use Rattle.data_records.specs.Renumbered.{field_count, new_field, record_numbered_by};
 ghost use Rattle.data_records.specs.Renumbered.{renumbered_table};
 ghost use Rattle.data_records.specs.Rising.{IsFirstAt};
+ghost use Rattle.data_records.specs.Undone.{last_of, without_newest_in};
 ghost use Rattle.data_records.specs.Views.{record_data, table_data, value_data};
 ghost use Rattle.type_schema.specs.SchemaViews.{model_info_of};
 
@@ -124,16 +126,26 @@ impl Table {
     }
 
     /// Takes out the record, if it is there.
-    pub(crate) fn take(&mut self, id: u64)
+    pub(crate) fn take(&mut self, id: u64) -> Option<Record>
         requires { IsStrictlyIncreasing (map (λ r. r.id) self.old.records.items) }
-        ensures { table_data self.new ≡ without_record_in id (table_data self.old) }
+        ensures left { table_data self.new ≡ without_record_in id (table_data self.old) }
+        ensures taken { IfSome result (λ r. r.id ≡ id) }
     {
         match place_of(self.records.as_slice(), id) {
-            Some(at) => {
-                let _taken = self.records.remove(at);
-            }
-            None => {}
+            Some(at) => Some(self.records.remove(at)),
+            None => None,
         }
+    }
+
+    /// Takes out the last record, if there is one, and lowers the next id.
+    pub(crate) fn take_newest(&mut self) -> Option<Record>
+        ensures left { table_data self.new ≡ without_newest_in (table_data self.old) }
+        ensures taken { option_map record_data result
+            ≡ last_of (map record_data self.old.records.items) }
+    {
+        let taken = self.records.pop()?;
+        self.next = self.next.saturating_sub(1);
+        Some(taken)
     }
 
     /// Puts a record at the end, and raises the next id.

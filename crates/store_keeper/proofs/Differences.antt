@@ -1,9 +1,13 @@
 -- Lists that differ in one element at most.
-use Rattle.std.proofs.Common.{◌≡◌, Bool, true, false, List, [], ◌∷◌, refl, ap, sym, ◌∙◌, subst, cond, map}
-use Rattle.std.specs.Prelude.{Some, IfSome, if◌then◌else◌}
+use Rattle.std.proofs.Common.{◌≡◌, ℕ, Bool, true, false, List, [], ◌∷◌, refl, ap, sym, ◌∙◌, subst, cond, map}
+use Rattle.std.specs.Prelude.{Option, Some, None, ◌==◌, IfSome, MatchOption, if◌then◌else◌}
 use Rattle.std.specs.List.{find, AllByRecursion}
 use Rattle.std.specs.Option.{option_map}
-use Rattle.data_records.specs.Changed.{change_first}
+use Rattle.std.proofs.lemmas.Bool.{eqb-true}
+use Rattle.data_meaning.specs.Values.{Value}
+use Rattle.data_meaning.specs.Database.{Slot}
+use Rattle.data_records.specs.Changed.{change_first, with_slot_value}
+use Rattle.store_keeper.specs.Changes.{FindsChange}
 
 pub find-passes : {A : Type 0} (p : A → Bool) (xs : List A) (x : A) → find p xs ≡ Some x → p x ≡ true
 find-passes p [] x e = cc
@@ -46,3 +50,41 @@ find-mapped {A} p f (x ∷ xs) =
       | true ↦ refl
       | false ↦ find-mapped p f xs
     ]
+
+-- ---- slots of which one at most was changed
+
+slot-is : (b s : Slot) → b.field ≡ s.field → b.value ≡ s.value → b ≡ s
+slot-is b s field value =
+    let first : b ≡ record { field = s.field; value = b.value } = ap (λ (f : ℕ). let x : Slot = record { field = f; value = b.value } in x) field in
+    first ∙ ap (λ (v : Value). let x : Slot = record { field = s.field; value = v } in x) value
+
+-- where the first slots hold the same value, a later one was changed, if one was
+pub finds-later : (a b : Slot) (rest others : List Slot) (found : Option Slot) → a.value ≡ b.value → FindsChange rest others found → FindsChange (a ∷ rest) (b ∷ others) found
+finds-later a b rest others found value later None h =
+    let tail : others ≡ rest = cc in
+    go found (later None tail)
+  where
+    go : (o : Option Slot) → MatchOption o (others ≡ rest) (λ slot. None ≡ Some slot) → MatchOption o (b ∷ others ≡ a ∷ rest) (λ slot. None ≡ Some slot)
+    go None e = h
+    go (Some slot) e = e
+finds-later a b rest others found value later (Some s) h =
+    elim (a.field == s.field) as (λ (t : Bool). b ∷ others ≡ (if t then with_slot_value s.value a ∷ rest else a ∷ change_first (λ (slot : Slot). slot.field == s.field) (with_slot_value s.value) rest)
+    → MatchOption found (b ∷ others ≡ a ∷ rest) (λ slot. Some s ≡ Some slot)) [
+      | true ↦ λ e.
+          let head : b ≡ with_slot_value s.value a = cc in
+          let tail : others ≡ rest = cc in
+          let same : b ≡ a = slot-is b a (ap (λ (x : Slot). x.field) head) (sym value) in
+          none same found (later None tail)
+      | false ↦ λ e.
+          let head : b ≡ a = cc in
+          let tail : others ≡ change_first (λ (slot : Slot). slot.field == s.field) (with_slot_value s.value) rest = cc in
+          some head found (later (Some s) tail)
+    ] h
+  where
+    none : b ≡ a → (o : Option Slot) → MatchOption o (others ≡ rest) (λ slot. None ≡ Some slot) → MatchOption o (b ∷ others ≡ a ∷ rest) (λ slot. Some s ≡ Some slot)
+    none same None e = cc
+    none same (Some slot) e = absurd cc
+
+    some : b ≡ a → (o : Option Slot) → MatchOption o (others ≡ rest) (λ slot. Some s ≡ Some slot) → MatchOption o (b ∷ others ≡ a ∷ rest) (λ slot. Some s ≡ Some slot)
+    some same None e = cc
+    some same (Some slot) e = e

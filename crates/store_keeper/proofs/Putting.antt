@@ -1,5 +1,5 @@
 -- A record that is put into a database is inserted, or a field of it is set.
-use Rattle.std.proofs.Common.{◌≡◌, ℕ, ◌<◌, Bool, true, false, ◌||◌, List, [], ◌∷◌, refl, ap, sym, ◌∙◌, cond, arith, map, length, suc, inr}
+use Rattle.std.proofs.Common.{◌≡◌, ℕ, ◌<◌, Bool, true, false, ◌||◌, List, [], ◌∷◌, refl, ap, sym, subst, ◌∙◌, cond, arith, map, length, suc, inl, inr}
 use Rattle.std.specs.Prelude.{Option, Some, None, ◌==◌, IfSome, if◌then◌else◌}
 use Rattle.std.specs.List.{find, list_any, AllByRecursion}
 use Rattle.std.specs.Option.{option_map_or}
@@ -7,10 +7,14 @@ use Rattle.std.proofs.lemmas.Bool.{eqb-true, eq-eqb, ne_eqb}
 use Rattle.type_schema.specs.Schema.{FieldInfo, ModelInfo, Schema, model_of}
 use Rattle.data_meaning.specs.Values.{Value}
 use Rattle.data_meaning.specs.Database.{Slot, Record, Table, Database, table_of, has_record, records_of, slots_of, IsRecordIn, HasTable, IsDatabase}
-use Rattle.data_records.specs.Changed.{IsFitting, change_first, with_field, with_slot_value, with_value, with_value_in}
-use Rattle.data_records.specs.Inserted.{change_table, next_of, with_record, with_row}
-use Rattle.data_records.specs.Rows.{AreShaped, slots_from}
-use Rattle.store_keeper.specs.Changes.{IsNext, IsSetInto, changed_by, put_into, values_of}
+use Rattle.data_records.specs.declared.data_err.DataErr.{DataErr}
+use Rattle.data_records.specs.declared.data_err.DataErr.TheVariants as err
+use Rattle.data_records.specs.declared.data_err.Limit.TheVariants as limit
+use Rattle.data_records.specs.Changed.{IsFitting, IsUnfit, change_first, with_field, with_slot_value, with_value, with_value_in}
+use Rattle.data_records.specs.Inserted.{IsAdmitted, IsRefused, change_table, is_there_or_next, next_of, with_record, with_row}
+use Rattle.data_records.specs.Rows.{AreAllThere, AreShaped, IsFirstDangling, IsFirstWrong, slots_from}
+use Rattle.data_records.specs.Shape.{There}
+use Rattle.store_keeper.specs.Changes.{FindsChange, IsChanged, IsNext, IsSetInto, changed_by, put_into, values_of}
 use Rattle.store_keeper.proofs.Differences.{all-found, find-passes, no-change, same-first}
 
 -- ---- tables
@@ -121,6 +125,14 @@ not-next s info d id is known there =
     = ap (λ o. list_any (λ i. i == id) (map (λ (r : Record). r.id) (option_map_or (λ (t : Table). t.records) o []))) (sym table.1) ∙ there in
     ap (λ o. id == option_map_or (λ (t : Table). t.next) o 1) table.1 ∙ there-given d info id table.0.next table.0.records table.2.records rows
 
+pub next-fresh : (s : Schema) (info : ModelInfo) (d : Database) → IsDatabase s d → model_of s info.number ≡ Some info → has_record d info.number (next_of d info.number) ≡ false
+next-fresh s info d is known =
+    let next = next_of d info.number in
+    elim (has_record d info.number next) as (λ (b : Bool). has_record d info.number next ≡ b → b ≡ false) [
+      | true ↦ λ there. let other = not-next s info d next is known there in let itself = eq-eqb next next refl in cc
+      | false ↦ λ none. refl
+    ] refl
+
 -- ---- a row is as long as the fields
 
 pub shaped-length : (fields : List FieldInfo) (row : List Value) → AreShaped fields row → length fields ≡ length row
@@ -128,6 +140,42 @@ shaped-length [] [] h = refl
 shaped-length [] (v ∷ row) h = absurd h
 shaped-length (f ∷ fields) [] h = absurd h
 shaped-length (f ∷ fields) (v ∷ row) h = ap suc (shaped-length fields row h.1)
+
+-- ---- what is admitted, or fits, is refused for want of memory alone
+
+no-wrong : (fields : List FieldInfo) (row : List Value) (wrong : ℕ) → AreShaped fields row → IsFirstWrong fields row wrong → ⊥
+no-wrong [] [] wrong shaped h = h
+no-wrong [] (v ∷ row) wrong shaped h = h
+no-wrong (f ∷ fields) [] wrong shaped h = h
+no-wrong (f ∷ fields) (v ∷ row) wrong shaped (inl here) = here.0 shaped.0
+no-wrong (f ∷ fields) (v ∷ row) wrong shaped (inr rest) = no-wrong fields row wrong shaped.1 rest.1
+
+no-dangling : (there : There) (fields : List FieldInfo) (row : List Value) (field id : ℕ) → AreAllThere there fields row → IsFirstDangling there fields row field id → ⊥
+no-dangling there [] [] field id all h = h
+no-dangling there [] (v ∷ row) field id all h = h
+no-dangling there (f ∷ fields) [] field id all h = h
+no-dangling there (f ∷ fields) (v ∷ row) field id all (inl here) = let none = all.0 in let one = here.0 in cc
+no-dangling there (f ∷ fields) (v ∷ row) field id all (inr rest) = no-dangling there fields row field id all.1 rest.1
+
+pub admitted-memory : (info : ModelInfo) (d : Database) (row : List Value) (e : DataErr) → IsAdmitted info d row → IsRefused info d row e → e ≡ err.OutOfMemory
+admitted-memory info d row err.NoRecord may h = absurd h
+admitted-memory info d row (err.WrongShape field) may h = absurd (no-wrong info.fields row field may.shaped h)
+admitted-memory info d row (err.Dangling field id) may h = absurd (no-dangling (is_there_or_next d info.number) info.fields row field id may.there h.1)
+admitted-memory info d row (err.Referenced m id field) may h = absurd h
+admitted-memory info d row (err.Full limit.Records) may h = let fewer = may.fewer in let more = h.2 in absurd (omega arith)
+admitted-memory info d row (err.Full limit.Weight) may h = absurd (h.3 may.room)
+admitted-memory info d row err.IdsSpent may h = let unspent = may.unspent in let spent = h.4 in absurd (omega arith)
+admitted-memory info d row err.OutOfMemory may h = refl
+
+pub fitting-memory : (d : Database) (m id : ℕ) (field : FieldInfo) (v : Value) (e : DataErr) → IsFitting d m id field v → IsUnfit d m id field v e → e ≡ err.OutOfMemory
+fitting-memory d m id field v err.NoRecord may h = let there = may.field_there in absurd cc
+fitting-memory d m id field v (err.WrongShape f) may h = absurd (h.1 may.shaped)
+fitting-memory d m id field v (err.Dangling f i) may h = let none = may.there in let some = h.2 in absurd cc
+fitting-memory d m id field v (err.Referenced n i f) may h = absurd h
+fitting-memory d m id field v (err.Full limit.Records) may h = absurd h
+fitting-memory d m id field v (err.Full limit.Weight) may h = absurd (h.3 may.room)
+fitting-memory d m id field v err.IdsSpent may h = absurd h
+fitting-memory d m id field v err.OutOfMemory may h = refl
 
 -- ---- the field that is set
 
@@ -150,3 +198,69 @@ set-of info d r old field slot after there old-is changed known fits is =
       },
       is,
     )
+
+-- ---- a record that is there, and differs in one field at most
+
+none-there : (rs : List Record) (id : ℕ) → find (λ (x : Record). x.id == id) rs ≡ None → list_any (λ i. i == id) (map (λ (x : Record). x.id) rs) ≡ false
+none-there [] id e = refl
+none-there (r ∷ rs) id e =
+    elim (r.id == id) as (λ (b : Bool). cond b (Some r) (find (λ (x : Record). x.id == id) rs) ≡ None → (b || list_any (λ i. i == id) (map (λ (x : Record). x.id) rs)) ≡ false) [
+      | true ↦ λ h. absurd cc
+      | false ↦ λ h. none-there rs id h
+    ] e
+
+module _ (info : ModelInfo) (d : Database) (r : Record) where
+  is-there : IsChanged info d r → has_record d info.number r.id ≡ true
+  is-there (inl same) = same.there
+  is-there (inr one) = let set = one.2 in set.there
+
+  pub changed-there : IsChanged info d r → None ≡ find (λ (x : Record). x.id == r.id) (records_of d info.number) → ⊥
+  changed-there h none = let no = none-there (records_of d info.number) r.id (sym none) in let yes = is-there h in absurd cc
+
+  module _ (old : Record) (old-is : Some old ≡ find (λ (x : Record). x.id == r.id) (records_of d info.number)) where
+    slots : old.slots ≡ slots_of d info.number r.id
+    slots = ap (λ o. option_map_or (λ (x : Record). x.slots) o []) old-is
+
+    -- the change that was made
+    abbrev pub change : IsChanged info d r → Option Slot
+    change (inl same) = None
+    change (inr one) = Some (record { field = one.0.number; value = one.1 })
+
+    by-change : (h : IsChanged info d r) → r.slots ≡ changed_by (change h) old.slots
+    by-change (inl same) = same.slots ∙ sym slots
+    by-change (inr one) =
+        let set = one.2 in
+        set.slots ∙ ap (change_first (λ (slot : Slot). slot.field == one.0.number) (with_slot_value one.1)) (sym slots)
+
+    pub unchanged-so : IsChanged info d r → FindsChange old.slots r.slots None → IsSetInto info d r d
+    unchanged-so h finds = inl (record { there = is-there h; slots = finds (change h) (by-change h) ∙ slots }, refl)
+
+    -- the slot that was found is set in its field
+    pub record IsSetAt (slot : Slot) : Type 0 where
+      pub field : FieldInfo
+      pub known : find (λ (f : FieldInfo). f.number == slot.field) info.fields ≡ Some field
+      pub fits : IsFitting d info.number r.id field slot.value
+      pub changed : r.slots ≡ changed_by (Some slot) old.slots
+
+    pub set-at : (slot : Slot) → IsChanged info d r → FindsChange old.slots r.slots (Some slot) → IsSetAt slot
+    set-at slot (inl same) finds = let no = finds None (by-change (inl same)) in absurd cc
+    set-at slot (inr one) finds =
+        let set = one.2 in
+        let made : Slot = record { field = one.0.number; value = one.1 } in
+        let is : Some made ≡ Some slot = finds (Some made) (by-change (inr one)) in
+        let same : made ≡ slot = cc in
+        subst IsSetAt same (record { field = one.0; known = set.known; fits = set.fits; changed = by-change (inr one) })
+
+    pub field-known : (slot : Slot) → IsSetAt slot → None ≡ find (λ (f : FieldInfo). f.number == slot.field) info.fields → ⊥
+    field-known slot set none = let known = set.known in absurd cc
+
+    pub field-fits : (slot : Slot) (field : FieldInfo) → IsSetAt slot → Some field ≡ find (λ (f : FieldInfo). f.number == slot.field) info.fields → IsFitting d info.number r.id field slot.value
+    field-fits slot field set is =
+        let known = set.known in
+        let same : set.field ≡ field = cc in
+        subst (λ (f : FieldInfo). IsFitting d info.number r.id f slot.value) same set.fits
+
+    pub set-so : (slot : Slot) (field : FieldInfo) (after : Database) → IsChanged info d r → IsSetAt slot
+        → Some field ≡ find (λ (f : FieldInfo). f.number == slot.field) info.fields → IsFitting d info.number r.id field slot.value
+        → after ≡ with_field info.number r.id field.number slot.value d → IsSetInto info d r after
+    set-so slot field after h set known fits is = set-of info d r old field slot after (is-there h) old-is set.changed known fits is

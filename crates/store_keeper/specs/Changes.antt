@@ -1,5 +1,5 @@
 -- Single changes of what is stored: a record that is put, and one that is dropped.
-use Rattle.std.specs.Prelude.{◌≡◌, ◌⊎◌, ℕ, ◌==◌, true, List, Option, Some, None, map, if◌then◌else◌}
+use Rattle.std.specs.Prelude.{◌≡◌, ◌⊎◌, ℕ, ◌==◌, true, List, Option, Some, None, MatchOption, map, if◌then◌else◌}
 use Rattle.type_schema.specs.Schema.{FieldInfo, ModelInfo, field_in, model_of}
 use Rattle.data_meaning.specs.Values.{Value}
 use Rattle.data_meaning.specs.Database.{Slot, Record, Table, Database, has_record, slots_of}
@@ -41,9 +41,13 @@ module _ (info : ModelInfo) (d : Database) (r : Record) where
     pub fits : IsFitting d info.number r.id field v
     pub slots : r.slots ≡ change_first (λ (slot : Slot). slot.field == field.number) (with_slot_value v) (slots_of d info.number r.id)
 
-  -- it is one that `insert` makes, or it is there and differs in one field at most, which `set_field` sets
+  -- it is there and differs in one field at most, which `set_field` sets
+  abbrev pub IsChanged : Type 0
+  IsChanged = IsSame ⊎ ((field : FieldInfo) × (v : Value) × IsSet field v)
+
+  -- it is one that `insert` makes, or it is there and differs in one field at most
   abbrev pub IsPuttable : Type 0
-  IsPuttable = IsNext ⊎ (IsSame ⊎ ((field : FieldInfo) × (v : Value) × IsSet field v))
+  IsPuttable = IsNext ⊎ IsChanged
 
   -- the database after such a change of a record that is there
   abbrev pub IsSetInto : Database → Type 0
@@ -58,6 +62,10 @@ module _ (info : ModelInfo) (d : Database) (r : Record) where
 abbrev pub changed_by : Option Slot → List Slot → List Slot
 changed_by None slots = slots
 changed_by (Some new) slots = change_first (λ (slot : Slot). slot.field == new.field) (with_slot_value new.value) slots
+
+-- If one slot at most was changed, then what is found is that slot, or nothing where all are as before.
+abbrev pub FindsChange : (old new : List Slot) → Option Slot → Type 0
+FindsChange old new found = (change : Option Slot) → new ≡ changed_by change old → MatchOption found (new ≡ old) (λ slot. change ≡ Some slot)
 
 -- The model is one of the schema, and the record may be put into its table.
 pub record MayPut (s : Stored) (info : ModelInfo) (r : Record) : Type 0 where

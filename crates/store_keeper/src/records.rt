@@ -1,21 +1,21 @@
 //! Single changes of what is stored.
 //!
 //! A record that is put is one that `insert` makes, or differs in one field at most from the one
-//! that is there. What is neither, which no caller may put, counts as memory that is not there.
-ghost use Rattle.std.specs.Prelude.{◌≡◌, ◌==◌, true, map, option_copied, Some, IfOk, IsTrue};
+//! that is there. So nothing refuses it but want of memory.
+ghost use Rattle.std.specs.Prelude.{◌≡◌, ◌==◌, ◌↔◌, false, true, map, option_copied, IfOk, IsTrue};
 ghost use Rattle.std.specs.Prelude.{OnErr, OnOk};
 ghost use Rattle.std.specs.List.{find};
 ghost use Rattle.std.specs.Option.{option_map};
 ghost use Rattle.data_meaning.specs.Database.{has_record};
-ghost use Rattle.data_records.specs.Inserted.{with_row};
+ghost use Rattle.data_records.specs.Inserted.{next_of, with_row};
 ghost use Rattle.data_records.specs.Views.{record_data, slot_data, value_data};
 ghost use Rattle.type_schema.specs.SchemaViews.{model_info_of};
-ghost use Rattle.store_keeper.specs.Changes.{IsNext, IsPutInto, IsPuttable, IsSetInto, MayDrop, MayPut};
-ghost use Rattle.store_keeper.specs.Changes.{changed_by, values_of, with_drop, with_put};
+ghost use Rattle.store_keeper.specs.Changes.{FindsChange, IsChanged, IsNext, IsPutInto, IsPuttable, IsSetInto};
+ghost use Rattle.store_keeper.specs.Changes.{MayDrop, MayPut, values_of, with_drop, with_put};
 ghost use Rattle.store_keeper.specs.Stored.{IsStored, stored_of};
 
 use crate::stored::Stored;
-use data_records::{Database, Record, Slot, Value, databases_stay};
+use data_records::{DataErr, Database, Record, Slot, Value, databases_stay};
 use std::alloc::{AllocError, Global};
 use type_schema::{FieldInfo, FieldNo, ModelInfo};
 
@@ -34,7 +34,7 @@ fn values_in(alloc: Global, slots: &[Slot]) -> Result<Vec<Value>, AllocError>
 
 /// Whether the values are equal.
 fn same_value(a: &Value, b: &Value) -> bool
-    ensures { IsTrue result → value_data a.now ≡ value_data b.now }
+    ensures { IsTrue result ↔ (value_data a.now ≡ value_data b.now) }
 {
     match (a, b) {
         (Value::Flag(x), Value::Flag(y)) => x == y,
@@ -48,52 +48,21 @@ fn same_value(a: &Value, b: &Value) -> bool
     }
 }
 
-/// Whether the slots are of the same fields and hold equal values.
-fn same_slots(old: &[Slot], new: &[Slot]) -> bool
-    ensures { IsTrue result → map slot_data old.now ≡ map slot_data new.now }
+/// The first slot that holds another value than before.
+fn changed_slot<'a>(old: &[Slot], new: &'a [Slot]) -> Option<&'a Slot>
+    ensures { FindsChange (map slot_data old.now) (map slot_data new.now)
+        (option_map slot_data (option_copied result)) }
 {
     match (old.split_first(), new.split_first()) {
-        (None, None) => true,
         (Some((a, rest)), Some((b, others))) => {
-            a.field == b.field && same_value(&a.value, &b.value) && same_slots(rest, others)
-        }
-        _ => false,
-    }
-}
-
-/// Two slots differ, or a field.
-#[derive(Clone, Copy)]
-struct Several;
-
-/// The slot in which the new ones differ from the old ones, if they do in one.
-fn difference<'a>(old: &[Slot], new: &'a [Slot]) -> Result<Option<&'a Slot>, Several>
-    ensures { IfOk result (λ found. map slot_data new.now
-        ≡ changed_by (option_map slot_data (option_copied found)) (map slot_data old.now)) }
-{
-    match (old.split_first(), new.split_first()) {
-        (None, None) => Ok(None),
-        (Some((a, rest)), Some((b, others))) => {
-            if a.field != b.field {
-                return Err(Several);
-            }
-            if !same_value(&a.value, &b.value) {
-                return only(b, same_slots(rest, others));
-            }
-            match difference(rest, others)? {
-                Some(slot) if slot.field == a.field => Err(Several),
-                found => Ok(found),
+            if same_value(&a.value, &b.value) {
+                changed_slot(rest, others)
+            } else {
+                Some(b)
             }
         }
-        _ => Err(Several),
+        _ => None,
     }
-}
-
-/// The slot, if it is the only one.
-fn only(slot: &Slot, alone: bool) -> Result<Option<&Slot>, Several>
-    ensures alone { IfOk result (λ found. IsTrue alone) }
-    ensures found { IfOk result (λ found. option_copied found ≡ Some slot.now) }
-{
-    if alone { Ok(Some(slot)) } else { Err(Several) }
 }
 
 /// The field of this number.
@@ -101,6 +70,14 @@ fn field_in(fields: &[FieldInfo], f: FieldNo) -> Option<&FieldInfo>
     ensures { option_copied result ≡ find (λ info. info.number == f) fields.now }
 {
     fields.iter().find(|info| info.number == f)
+}
+
+/// What is refused for want of memory alone.
+fn memory_error(e: DataErr) -> AllocError
+    requires { e ≡ DataErr.OutOfMemory }
+{
+    let _memory = e;
+    AllocError
 }
 
 /// Inserts the record that is to come next.
@@ -118,7 +95,7 @@ fn insert_record(
     let values = values_in(alloc, made.slots.as_slice())?;
     match base.insert(alloc, info, values.as_slice()) {
         Ok(_) => Ok(()),
-        Err(_) => Err(AllocError),
+        Err(e) => Err(memory_error(e)),
     }
 }
 
@@ -129,37 +106,36 @@ fn set_record(
     info: &ModelInfo,
     made: &Record,
 ) -> Result<(), AllocError>
-    requires { has_record base.old info.now.number made.now.id ≡ true }
+    requires { IsChanged (model_info_of info.now) base.old (record_data made.now) }
     ensures ok { OnOk result (IsSetInto (model_info_of info.now) base.old
         (record_data made.now) base.new) }
     ensures err { OnErr result (base.new ≡ base.old) }
 {
     let Some(old) = base.get(info.number, made.id) else {
-        return Err(AllocError);
+        unreachable!();
     };
-    let Ok(found) = difference(old.slots.as_slice(), made.slots.as_slice()) else {
-        return Err(AllocError);
-    };
-    let Some(slot) = found else {
+    let Some(slot) = changed_slot(old.slots.as_slice(), made.slots.as_slice()) else {
         return Ok(());
     };
     let Some(field) = field_in(info.fields.as_slice(), slot.field) else {
-        return Err(AllocError);
+        unreachable!();
     };
     match base.set_field(alloc, info.number, made.id, field, &slot.value) {
         Ok(()) => Ok(()),
-        Err(_) => Err(AllocError),
+        Err(e) => Err(memory_error(e)),
     }
 }
 
-/// Puts the record into the database.
+/// Puts the record into the database, in which no record has the id that is to come next.
 fn put_record(
     alloc: Global,
     base: &mut Database,
     info: &ModelInfo,
     made: &Record,
 ) -> Result<(), AllocError>
-    requires { IsPuttable (model_info_of info.now) base.old (record_data made.now) }
+    requires fresh { has_record base.old info.now.number
+        (next_of base.old info.now.number) ≡ false }
+    requires may { IsPuttable (model_info_of info.now) base.old (record_data made.now) }
     ensures ok { OnOk result (IsPutInto (model_info_of info.now) base.old
         (record_data made.now) base.new) }
     ensures err { OnErr result (base.new ≡ base.old) }

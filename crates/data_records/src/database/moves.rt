@@ -8,6 +8,7 @@ ghost use Rattle.data_records.specs.Views.{table_data, value_data};
 ghost use Rattle.type_schema.specs.SchemaViews.{model_info_of};
 
 use super::{Database, place_of};
+use crate::index::Index;
 use crate::table::Table;
 use crate::value::Value;
 use crate::weights::{count_in, weight_in, weight_with};
@@ -30,6 +31,7 @@ impl Database {
         ensures ok { OnOk result (self.new ≡ with_table (model_info_of info.now) self.old) }
         ensures err { OnErr result (self.new ≡ self.old) }
     {
+        self.index = Index::none();
         self.tables.push(Table {
             model: info.number,
             next: 1,
@@ -42,6 +44,7 @@ impl Database {
     pub fn drop_table(&mut self, m: ModelNo)
         ensures { self.new ≡ without_table m self.old }
     {
+        self.index = Index::none();
         self.tables.retain(|table| table.model != m);
         self.count = count_in(self.tables.as_slice()).unwrap_or(self.count);
         self.weight = weight_in(self.tables.as_slice()).unwrap_or(self.weight);
@@ -51,6 +54,7 @@ impl Database {
     pub fn take_field(&mut self, m: ModelNo, f: FieldNo)
         ensures { self.new ≡ without_field m f self.old }
     {
+        self.index = Index::none();
         take_field(self.tables.as_mut_slice(), m, f);
         self.weight = weight_in(self.tables.as_slice()).unwrap_or(self.weight);
     }
@@ -74,6 +78,7 @@ impl Database {
         };
         match place_of(self.tables.as_slice(), m) {
             Some(place) => {
+                self.index = Index::none();
                 let table = &mut self.tables[place];
                 table.add_field(f, values)?;
                 self.weight = weight;

@@ -23,8 +23,7 @@ holds-returns-in-FlatS t c =
 pub ids_within-returns : goal.ids_within-returns
 ids_within-returns t c =
     searched (λ found. found.items) c.args.database.now (env_data c.args.env.now) c.args.m c.in-Find.n c.args.set.now c.in-Find.filters c.as_slice.result.now c.in_ok-tests.tests.items
-    c.as_slice-2.result.now c.records.result.now c.ids_passing.result c.in-Find.is c.if-n-m.true c.as_slice.ensures c.as_slice-2.ensures.value c.in_ok-tests.ensures
-    c.records.ensures.all c.records.ensures.rising c.ids_passing.ensures
+    c.as_slice-2.result.now c.ids_found.result c.in-Find.is c.if-n-m.true c.as_slice.ensures c.as_slice-2.ensures.value c.in_ok-tests.ensures c.ids_found.ensures
 
 pub ids_within-returns-2 : goal.ids_within-returns-2
 ids_within-returns-2 t c =

@@ -3,8 +3,14 @@ use Rattle.type_schema.specs.SchemaViews.{model_info_of}
 use Rattle.data_meaning.specs.Database.{Database}
 use Rattle.data_records.specs.Views.{record_data}
 use Rattle.store_keeper.specs.Stored.{Stored, IsStored, stored_of}
+use Rattle.store_keeper.proofs.Putting.{next-fresh}
 use Rattle.store_keeper.proofs.Storing.{put-is, put-stored}
 use Rattle.store_keeper.proofs.records.put_stored.Goals as goal
+
+pub put_record-requires-clause-fresh : goal.put_record-requires-clause-fresh
+put_record-requires-clause-fresh c =
+    let s = stored_of c.args.stored.now in
+    next-fresh s.schema (model_info_of c.args.info.now) s.base c.requires.stored.database c.requires.may.model
 
 pub returns-in-Ok-clause-ok : goal.returns-in-Ok-clause-ok
 returns-in-Ok-clause-ok c =

@@ -29,7 +29,7 @@ pub invariant_of-self : goal.invariant_of-self
 invariant_of-self c =
     let t = c.index_mut-table.result.now in
     let same = same-at c.self.inside.tables.items c.in-Some-place_of.place c.add_field.new.self t (c.in_err-add_field-in-Some-place_of.ensures.err ∙ ap table_data c.index_mut-table.ensures.value) in
-    subst (IsKept c.self.inside.count c.self.inside.weight) (sym same) c.self.invariant
+    (subst (IsKept c.self.inside.count c.self.inside.weight) (sym same) c.self.invariant.0, λ n i g. c.none.ensures n i g _)
 
 pub returns-in_err-add_field-in-Some-place_of-clause-err : goal.returns-in_err-add_field-in-Some-place_of-clause-err
 returns-in_err-add_field-in-Some-place_of-clause-err c =
@@ -57,9 +57,11 @@ invariant_of-self-in-Some-place_of c =
     = c.in-Some.ensures
     ∙ ap (λ (xs : List code_value.Value). weight + sum_by (λ v. weight_of (value_data v)) xs) c.as_slice.ensures.value
     ∙ ap (λ n. weight + n) (sym (sum_by_of_map weight_of value_data c.args.values.items)) in
-    let kept = kept-more-values m f c.self.inside.count weight vs (map table_data ts) (table_data (get_or ts at t)) c.self.invariant found few in
-    subst (IsKept c.self.inside.count c.in-Some.weight) (sym changed)
-    (subst (λ w. IsKept c.self.inside.count w (with_new_field m f vs (map table_data ts))) (sym weighs) kept)
+    let kept = kept-more-values m f c.self.inside.count weight vs (map table_data ts) (table_data (get_or ts at t)) c.self.invariant.0 found few in (
+      subst (IsKept c.self.inside.count c.in-Some.weight) (sym changed)
+          (subst (λ w. IsKept c.self.inside.count w (with_new_field m f vs (map table_data ts))) (sym weighs) kept),
+      λ n i g. c.none.ensures n i g _,
+    )
 
 pub returns-in_ok-add_field-in-Some-place_of-clause-ok : goal.returns-in_ok-add_field-in-Some-place_of-clause-ok
 returns-in_ok-add_field-in-Some-place_of-clause-ok c =

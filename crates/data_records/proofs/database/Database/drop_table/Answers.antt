@@ -23,7 +23,7 @@ invariant_of-self c =
     let left : map table_data us ≡ without_table m d
     = ap (map table_data) (filter_same _ other _ (λ x b f' k. search rules) ts c.retain.new.self.items c.retain.ensures.filtered)
     ∙ filter-seen table_data (λ (t : plain.Table). not (t.model == m)) ts in
-    let kept = c.self.invariant in
+    let kept = c.self.invariant.0 in
     let number = λ (ws : List code_table.Table). sum_by (λ t. length t.records.items) ws in
     let weigh = λ (ws : List code_table.Table). sum_by (λ t. sum_by (λ r. sum_by (λ slot. weight_of (value_data slot.value)) r.slots) t.records.items) ws in
     let counts : number c.as_slice.result.now ≡ record_count (without_table m d)
@@ -31,11 +31,13 @@ invariant_of-self c =
     let weighs : weigh c.as_slice-2.result.now ≡ total_weight (without_table m d)
     = ap weigh c.as_slice-2.ensures.value ∙ sym (tables_weigh us) ∙ ap total_weight left in
     let few : number c.as_slice.result.now < 2 ^ 64 = omega (arith, counts, count-less m d, kept.counted) in
-    let light : weigh c.as_slice-2.result.now < 2 ^ 64 = omega (arith, weighs, weight-less m d, kept.weighed) in
-    subst (IsKept c.unwrap_or-self-inside.result c.unwrap_or-self-inside-2.result) (sym left)
-    (kept-less m c.self.inside.count c.self.inside.weight _ _ d kept
-    (c.unwrap_or-self-inside.ensures ∙ sum-there c.count_in.result _ c.self.inside.count c.count_in.ensures few ∙ counts)
-    (c.unwrap_or-self-inside-2.ensures ∙ sum-there c.weight_in.result _ c.self.inside.weight c.weight_in.ensures light ∙ weighs))
+    let light : weigh c.as_slice-2.result.now < 2 ^ 64 = omega (arith, weighs, weight-less m d, kept.weighed) in (
+      subst (IsKept c.unwrap_or-self-inside.result c.unwrap_or-self-inside-2.result) (sym left)
+          (kept-less m c.self.inside.count c.self.inside.weight _ _ d kept
+          (c.unwrap_or-self-inside.ensures ∙ sum-there c.count_in.result _ c.self.inside.count c.count_in.ensures few ∙ counts)
+          (c.unwrap_or-self-inside-2.ensures ∙ sum-there c.weight_in.result _ c.self.inside.weight c.weight_in.ensures light ∙ weighs)),
+      λ n i g. c.none.ensures n i g _,
+    )
 
 pub returns : goal.returns
 returns c =

@@ -10,7 +10,7 @@ use Rattle.data_records.proofs.database.Database.get.Goals as goal
 pub record_in-requires : goal.record_in-requires
 record_in-requires c =
     rw (c.as_slice-in-Some.ensures.value)
-    (rising-in c.self.inside.tables.items c.args.m c.in-Some.table.now c.self.invariant.rising (subst (λ ts. Some c.in-Some.table.now ≡ find (λ t. t.model == c.args.m) ts) c.as_slice.ensures.value c.in-Some.ensures))
+    (rising-in c.self.inside.tables.items c.args.m c.in-Some.table.now c.self.invariant.0.rising (subst (λ ts. Some c.in-Some.table.now ≡ find (λ t. t.model == c.args.m) ts) c.as_slice.ensures.value c.in-Some.ensures))
 
 pub returns-in-Some : goal.returns-in-Some
 returns-in-Some c =

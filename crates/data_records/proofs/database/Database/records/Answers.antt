@@ -10,7 +10,7 @@ returns-in-Some c = record {
   all = rw (← c.self.view_is, ← c.as_slice.ensures.value, records-seen c.as_slice.result.now c.args.m (option_copied c.table_in.result) c.table_in.ensures, c.in-Some.is, c.as_slice-in-Some.ensures.value) refl;
   rising =
       rw (c.as_slice-in-Some.ensures.value)
-      (rising-in c.self.inside.tables.items c.args.m c.in-Some.table.now c.self.invariant.rising (subst (λ ts. Some c.in-Some.table.now ≡ find (λ t. t.model == c.args.m) ts) c.as_slice.ensures.value c.in-Some.ensures));
+      (rising-in c.self.inside.tables.items c.args.m c.in-Some.table.now c.self.invariant.0.rising (subst (λ ts. Some c.in-Some.table.now ≡ find (λ t. t.model == c.args.m) ts) c.as_slice.ensures.value c.in-Some.ensures));
 }
 
 pub returns-in-None : goal.returns-in-None

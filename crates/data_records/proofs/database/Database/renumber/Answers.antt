@@ -16,6 +16,8 @@ invariant_of-self c =
     = c.renumber_tables.ensures ∙ ap (λ xs. map (renumbered_table models) (map table_data xs)) before in
     let long : length us ≡ c.self.inside.tables.len = omega (arith, c.renumber_tables.auto.tables, ap length before, c.as_mut_slice.ensures.len) in
     let all : length ts ≡ c.self.inside.tables.len = omega (arith, ap length before, c.as_mut_slice.ensures.len) in
-    let back = whole-again c.self.inside.tables.len us ts long all in
-    subst (IsKept c.self.inside.count c.self.inside.weight) (sym (ap (map table_data) back ∙ anew))
-    (kept-anew models c.self.inside.count c.self.inside.weight (map table_data ts) c.self.invariant)
+    let back = whole-again c.self.inside.tables.len us ts long all in (
+      subst (IsKept c.self.inside.count c.self.inside.weight) (sym (ap (map table_data) back ∙ anew))
+          (kept-anew models c.self.inside.count c.self.inside.weight (map table_data ts) c.self.invariant.0),
+      λ n i g. c.none.ensures n i g _,
+    )

@@ -25,8 +25,10 @@ invariant_of-self c =
     let weigh = λ (ws : List code_table.Table). sum_by (λ t. sum_by (λ r. sum_by (λ slot. weight_of (value_data slot.value)) r.slots) t.records.items) ws in
     let weighs : weigh c.as_slice.result.now ≡ total_weight (without_field m f d)
     = ap weigh (c.as_slice.ensures.value ∙ back) ∙ sym (tables_weigh us) ∙ ap total_weight left in
-    let kept = c.self.invariant in
-    let light : weigh c.as_slice.result.now < 2 ^ 64 = omega (arith, weighs, lighter m f d, kept.weighed) in
-    subst (IsKept c.self.inside.count c.unwrap_or-self-inside.result) (sym (ap (map table_data) back ∙ left))
-    (kept-left m f c.self.inside.count c.self.inside.weight _ d kept
-    (c.unwrap_or-self-inside.ensures ∙ sum-there c.weight_in.result _ c.self.inside.weight c.weight_in.ensures light ∙ weighs))
+    let kept = c.self.invariant.0 in
+    let light : weigh c.as_slice.result.now < 2 ^ 64 = omega (arith, weighs, lighter m f d, kept.weighed) in (
+      subst (IsKept c.self.inside.count c.unwrap_or-self-inside.result) (sym (ap (map table_data) back ∙ left))
+          (kept-left m f c.self.inside.count c.self.inside.weight _ d kept
+          (c.unwrap_or-self-inside.ensures ∙ sum-there c.weight_in.result _ c.self.inside.weight c.weight_in.ensures light ∙ weighs)),
+      λ n i g. c.none.ensures n i g _,
+    )

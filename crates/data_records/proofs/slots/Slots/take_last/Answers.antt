@@ -8,5 +8,5 @@ pub returns : goal.returns
 returns c =
     let old = c.self.inside.items in
     ap (map slot_data) (c.pop-taken.ensures.rest ∙ ap (λ n. take (n - 1) old.items) (omega (arith, old.ok.0)))
-    ∙ last-off old.items
+    ∙ last-off slot_data old.items
     ∙ ap (λ us. without_last (map slot_data us)) c.self.view_is
