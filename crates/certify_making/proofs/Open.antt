@@ -77,8 +77,9 @@ module _ (c : Problem) (path : List Literal) (h : IsOpen c path) where
       others None rest all = all
       others (Some s) rest all = All-tail P s rest all
 
-  lawful : HasVarsBelow c → HasModel (are_columns c) meets_said (all_said c path) → IsLawfulAssignment c a
-  lawful below model =
+  lawful : HasVarsBelow c → IsLawfulAssignment c a
+  lawful below =
+      let model = h.has_model in
       let columns = model.model in
       record {
         meets_each = λ n. clause_met (c.clause n) (below n) (h.no_clause n);
@@ -88,4 +89,4 @@ module _ (c : Problem) (path : List Literal) (h : IsOpen c path) where
       }
 
   pub assigned : HasVarsBelow c → HasAssignment c
-  assigned below = λ refuted. h.has_model (λ model. refuted a (lawful below model))
+  assigned below = (a, lawful below)

@@ -10,6 +10,9 @@ use thiserror::Error;
 /// Why `certify` did not write a part.
 #[derive(Clone, Copy, Debug, PartialEq, Eq, Error)]
 pub enum CertErr {
+    /// Some assignment is lawful for the clauses, so there is no lawful tree.
+    #[error("the clauses are not refuted")]
+    NotRefuted,
     /// The sink met a fault, which it counted.
     #[error("a fault of the output")]
     WriteFault,

@@ -3,6 +3,7 @@
 //! - `fault`: [`CertErr`], why a part was not written.
 //! - `text`: the text of a line.
 //! - `leaves`: lines that close a path.
+//! - `planned`: the lines of a plan.
 //! - `splits`: the variable of a split.
 //! - `making`: the text of one obligation's part.
 //! - `writing`: [`certify`], which writes it.
@@ -11,6 +12,7 @@
 mod fault;
 mod leaves;
 mod making;
+mod planned;
 mod splits;
 mod text;
 mod writing;

@@ -9,9 +9,11 @@ ghost use Rattle.certify_making.specs.Open.{HasAssignment, HasVarsBelow, IsOpen}
 ghost use Rattle.certify_making.specs.Texts.{IsPartText, IsSmall};
 
 use crate::leaves::false_clause;
+use crate::planned::planned_line;
 use crate::splits::open_variable;
 use crate::text::push_line;
 use certify_clauses::{Atom, Clauses, ListedClauses, Path};
+use certify_plan::{Plan, find_plan};
 use certify_recheck::{Line, Step, Told, has_no_model, procedures, take_line};
 use solve_theory::Theory;
 use sqlite_items::Items;
@@ -52,6 +54,31 @@ fn next_line<T: Theory<Lit = Atom, Model = (Items<u32>, Items<i64>)>>(
     }
 }
 
+/// The next line of a tree along a path, if there is one: that of the plan, if it has one.
+fn line_to_write<T: Theory<Lit = Atom, Model = (Items<u32>, Items<i64>)>>(
+    c: &ListedClauses,
+    plan: &mut Plan,
+    path: &Path,
+    told: &mut Told<T>,
+) -> Result<Option<Line>, AllocError>
+    requires vars { path.now.vars ≡ length c.now.atoms.items }
+    requires few_vars { length c.now.atoms.items < 2000000000 }
+    requires few_clauses { length c.now.clauses.items < 2000000000 }
+    requires ready { IsReady (problem_in c.now) path.now.literals told.old.count
+        (T.literals told.old.theory) (T.capacity told.old.theory) (T.takes told.old.theory)
+        (T.models told.old.theory) T.meets }
+    ensures ready { IsReady (problem_in c.now) path.now.literals told.new.count
+        (T.literals told.new.theory) (T.capacity told.new.theory) (T.takes told.new.theory)
+        (T.models told.new.theory) T.meets }
+    ensures next { IfOk result (λ line. MatchOption line (IsOpen (problem_in c.now)
+        path.now.literals) (λ l. IsNext (tree (problem_in c.now) path.now.literals) l × IsSmall l)) }
+{
+    match planned_line(c, plan, path, told)? {
+        Some(line) => Ok(Some(line)),
+        None => next_line(c, path, told),
+    }
+}
+
 /// What a line did to a tree that is made.
 #[derive(Clone, Copy)]
 pub(crate) enum Went {
@@ -67,6 +94,7 @@ pub(crate) enum Went {
 fn go_on<T: Theory<Lit = Atom, Model = (Items<u32>, Items<i64>)>>(
     duty: u32,
     c: &ListedClauses,
+    plan: &mut Plan,
     path: &mut Path,
     told: &mut Told<T>,
     text: &mut Vec<u8>,
@@ -85,7 +113,7 @@ fn go_on<T: Theory<Lit = Atom, Model = (Items<u32>, Items<i64>)>>(
     ensures went { IfOk result (HasGone (problem_in c.now) duty path.old.literals
         path.new.literals text.old.items text.new.items) }
 {
-    let next = next_line(c, path, told)?;
+    let next = line_to_write(c, plan, path, told)?;
     let Some(line) = next else {
         return Ok(Went::Open);
     };
@@ -103,6 +131,7 @@ fn go_on<T: Theory<Lit = Atom, Model = (Items<u32>, Items<i64>)>>(
 fn push_tree<T: Theory<Lit = Atom, Model = (Items<u32>, Items<i64>)>>(
     duty: u32,
     c: &ListedClauses,
+    plan: &mut Plan,
     path: &mut Path,
     told: &mut Told<T>,
     text: &mut Vec<u8>,
@@ -121,7 +150,7 @@ fn push_tree<T: Theory<Lit = Atom, Model = (Items<u32>, Items<i64>)>>(
     ensures open { IfOk result (λ made. made ≡ false → HasAssignment (problem_in c.now)) }
 {
     'lines: loop {
-        match go_on(duty, c, path, told, text)? {
+        match go_on(duty, c, plan, path, told, text)? {
             Went::On => {}
             Went::Done => return Ok(true),
             Went::Open => return Ok(false),
@@ -132,8 +161,8 @@ fn push_tree<T: Theory<Lit = Atom, Model = (Items<u32>, Items<i64>)>>(
 /// The text of an obligation's part of a certificate: its line and those of a lawful tree over its
 /// clauses. None exactly where some assignment is lawful.
 ///
-/// A variable of a clause of which all other literals are false is split first, so that one side
-/// closes at once. Two thousand million variables or clauses count as memory that is not there.
+/// The lines are those of a plan, as long as they are lawful. Without one, a variable of a clause of
+/// which all other literals are false is split first, so that one side closes at once. Two thousand million variables or clauses count as memory that is not there.
 pub fn part_text(alloc: Global, duty: u32, c: &ListedClauses) -> Result<Option<Vec<u8>>, AllocError>
     requires small { duty < 2000000000 }
     requires below { HasVarsBelow (problem_in c.now) }
@@ -147,7 +176,8 @@ pub fn part_text(alloc: Global, duty: u32, c: &ListedClauses) -> Result<Option<V
     push_line(Line::Duty(duty), &mut text)?;
     let mut path = Path::new(alloc, c.atoms.len())?;
     let mut told = procedures(alloc, c)?;
-    if push_tree(duty, c, &mut path, &mut told, &mut text)? {
+    let mut plan = find_plan(alloc, c)?;
+    if push_tree(duty, c, &mut plan, &mut path, &mut told, &mut text)? {
         Ok(Some(text))
     } else {
         Ok(None)

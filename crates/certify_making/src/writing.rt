@@ -3,7 +3,6 @@
 ghost use Rattle.std.specs.Prelude.{◌<◌, ◌≤◌, IfErr, OnOk};
 ghost use Rattle.certify_making.specs.Faults.{IsFault, IsWrittenPart};
 ghost use Rattle.certify_clauses.specs.InMemory.{problem_in};
-ghost use Rattle.certify_clauses.specs.Refuted.{IsRefuted};
 ghost use Rattle.certify_making.specs.Open.{HasVarsBelow};
 
 use crate::fault::CertErr;
@@ -17,6 +16,7 @@ use std::alloc::Global;
 ///
 /// # Errors
 ///
+/// - `NotRefuted`, exactly where some assignment is lawful: nothing was appended.
 /// - `WriteFault`, only where the sink counted a fault: a front of a part was appended.
 /// - `OutOfMemory`: nothing was.
 pub fn certify<W: Sink>(
@@ -27,14 +27,13 @@ pub fn certify<W: Sink>(
 ) -> Result<(), CertErr>
     requires small { duty < 2000000000 }
     requires below { HasVarsBelow (problem_in c.now) }
-    requires refuted { IsRefuted (problem_in c.now) }
     ensures ok { OnOk result (IsWrittenPart (W.told out.old) (W.told out.new)
         (problem_in c.now) duty) }
     ensures err { IfErr result (IsFault W.told W.faults out.old out.new (problem_in c.now) duty) }
     ensures never_falls { W.faults out.old ≤ W.faults out.new }
 {
     let Some(text) = part_text(alloc, duty, c)? else {
-        unreachable!()
+        return Err(CertErr::NotRefuted);
     };
     put_all(out, text.as_slice())?;
     Ok(())

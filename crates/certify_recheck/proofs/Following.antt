@@ -11,7 +11,7 @@ use Rattle.certify_recheck.specs.declared.line.Line.{Line}
 use Rattle.certify_recheck.specs.declared.spot.Spot.{Spot}
 
 -- what is due first, and then what is due behind it
-due_append : (ds es : List Due) (ls : List Line) (n m : ℕ) → AreDue ds ls n → AreDue es (drop n ls) m → AreDue (ds ++ es) ls (n + m)
+pub due_append : (ds es : List Due) (ls : List Line) (n m : ℕ) → AreDue ds ls n → AreDue es (drop n ls) m → AreDue (ds ++ es) ls (n + m)
 due_append [] es ls zero m are more = subst (λ k. AreDue es ls k) (sym (zero-add m)) more
 due_append [] es ls (suc n) m are more = absurd are
 due_append (d ∷ ds) es [] n m are more = absurd are

@@ -29,5 +29,5 @@ pub use frame::{recheck_ending, recheck_heading};
 pub use laws::{parts_are_lawful_trees, parts_follow_one_another, written_lines_are_read_back};
 pub use line::{Line, read_line};
 pub use spot::Spot;
-pub use theories::{Told, has_no_model, procedures};
+pub use theories::{Told, has_no_model, procedures, take_back};
 pub use walk::{Step, take_line};

@@ -1,11 +1,12 @@
 //! Whether what a path says has a model.
 
+ghost use Rattle.std.specs.Bool.{OnFalse};
 ghost use Rattle.std.specs.Option.{option_to_list};
 ghost use Rattle.std.specs.Prelude.{◌≡◌, ◌-◌, ◌<◌, ◌≤◌, ◌↔◌, [], ◌∷◌, ◌++◌, if◌then◌else◌, length, take, IfOk};
 ghost use Rattle.std.specs.Prelude.{IfSome, IsTrue, MatchOption, None};
 ghost use Rattle.solve_theory.specs.Models.{HasModel};
 ghost use Rattle.certify_clauses.specs.Paths.{value_on};
-ghost use Rattle.certify_clauses.specs.Problem.{said_by};
+ghost use Rattle.certify_clauses.specs.Problem.{all_said, are_columns, meets_said, said_by};
 ghost use Rattle.certify_clauses.specs.Trees.{IsWithoutModel};
 ghost use Rattle.certify_recheck.specs.Walking.{IsReady, TakesAll};
 
@@ -97,6 +98,8 @@ pub fn has_no_model<C: Clauses, T: Theory<Lit = Atom, Model = (Items<u32>, Items
     ensures ready { IsReady (C.problem c.now) path.now told.new.count (T.literals told.new.theory)
         (T.capacity told.new.theory) (T.takes told.new.theory) (T.models told.new.theory) T.meets }
     ensures verdict { IsTrue result ↔ IsWithoutModel (C.problem c.now) path.now }
+    ensures has_model { OnFalse result (HasModel (are_columns (C.problem c.now)) meets_said
+        (all_said (C.problem c.now) path.now)) }
 {
     while told.count < path.len() {
         if !tell(c, path[told.count], &mut told.theory) {
@@ -108,7 +111,7 @@ pub fn has_no_model<C: Clauses, T: Theory<Lit = Atom, Model = (Items<u32>, Items
 }
 
 /// Takes the last literal of a path back, and what it says where that was told.
-pub(crate) fn take_back<C: Clauses, T: Theory<Lit = Atom, Model = (Items<u32>, Items<i64>)>>(
+pub fn take_back<C: Clauses, T: Theory<Lit = Atom, Model = (Items<u32>, Items<i64>)>>(
     c: &C,
     path: &mut Path,
     told: &mut Told<T>,

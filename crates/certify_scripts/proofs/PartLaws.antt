@@ -46,20 +46,20 @@ ok_too (Ok x) P Q h k = h x k
 ok_too (Err e) P Q h k = tt
 
 -- one part more
-parts_push : (n : ℕ) (cs : List Problem) (c : Problem) → parts_from n (cs ++ c ∷ []) ≡ parts_from n cs ++ part c (n + length cs) ∷ []
+pub parts_push : (n : ℕ) (cs : List Problem) (c : Problem) → parts_from n (cs ++ c ∷ []) ≡ parts_from n cs ++ part c (n + length cs) ∷ []
 parts_push n [] c = let none : n ≡ n + 0 = omega arith in ap (λ k. part c k ∷ []) none
 parts_push n (x ∷ cs) c =
     let moved : n + 1 + length cs ≡ n + suc (length cs) = omega arith in
     ap (λ ds. part x n ∷ ds) (parts_push (n + 1) cs c ∙ ap (λ k. parts_from (n + 1) cs ++ part c k ∷ []) moved)
 
 module _ (t : Script) (g : Signature) where
-  problems_long : (ds : List Duty) (cs : List Problem) → AreProblemsOf t g ds cs → length ds ≡ length cs
+  pub problems_long : (ds : List Duty) (cs : List Problem) → AreProblemsOf t g ds cs → length ds ≡ length cs
   problems_long [] [] h = refl
   problems_long [] (c ∷ cs) h = absurd h
   problems_long (d ∷ ds) [] h = absurd h
   problems_long (d ∷ ds) (c ∷ cs) h = ap suc (problems_long ds cs h.1)
 
-  problems_push : (ds : List Duty) (cs : List Problem) (n : ℕ) (duty : Duty) (c : Problem) → slice_get ds n ≡ Some duty → AreProblemsOf t g (take n ds) cs
+  pub problems_push : (ds : List Duty) (cs : List Problem) (n : ℕ) (duty : Duty) (c : Problem) → slice_get ds n ≡ Some duty → AreProblemsOf t g (take n ds) cs
       → IsProblemFor g (formula_of t duty) (normal_form (formula_of t duty)) c → AreProblemsOf t g (take (n + 1) ds) (cs ++ c ∷ [])
   problems_push [] cs n duty c at h is = cc
   problems_push (d ∷ ds) [] zero duty c at h is =
@@ -70,7 +70,7 @@ module _ (t : Script) (g : Signature) where
       let next : suc n + 1 ≡ suc (n + 1) = omega arith in
       subst (λ k. AreProblemsOf t g (take k (d ∷ ds)) (x ∷ cs ++ c ∷ [])) (sym next) (h.0, problems_push ds cs n duty c at h.1 is)
 
-  take_long : (ds : List Duty) (n : ℕ) (duty : Duty) → slice_get ds n ≡ Some duty → length (take n ds) ≡ n
+  pub take_long : (ds : List Duty) (n : ℕ) (duty : Duty) → slice_get ds n ≡ Some duty → length (take n ds) ≡ n
   take_long [] n duty at = cc
   take_long (d ∷ ds) zero duty at = refl
   take_long (d ∷ ds) (suc n) duty at = ap suc (take_long ds n duty at)

@@ -49,7 +49,7 @@ split (d ∷ ds) ys (l ∷ ls) (suc n) h =
     record { count = suc later.count; first = (h.0, later.first); others = subst (λ k. AreDue ys (drop later.count ls) k) (sym same) later.others }
 
 -- the clauses of each part that stands there are refuted
-refuted : (cs : List Problem) (n : ℕ) (rest : List Due) (ls : List Line) (m : ℕ) → AreDue (parts_from n cs ++ rest) ls m → (c : Problem) → Contains cs c → IsRefuted c
+pub refuted : (cs : List Problem) (n : ℕ) (rest : List Due) (ls : List Line) (m : ℕ) → AreDue (parts_from n cs ++ rest) ls m → (c : Problem) → Contains cs c → IsRefuted c
 refuted [] n rest ls m h c there = Contains-none c there
 refuted (x ∷ cs) n rest ls m h c there =
     let parted = split (part x n ∷ []) (parts_from (n + 1) cs ++ rest) ls m h in

@@ -1,26 +1,22 @@
 //! The part of one obligation.
 
 ghost use Rattle.std.specs.Prelude.{◌≡◌, ◌+◌, ◌<◌, ◌^◌, Contains, IfOk, length};
-ghost use Rattle.duty_meaning.specs.Duties.{formula_of, obligations_of};
+ghost use Rattle.duty_meaning.specs.Duties.{obligations_of};
 ghost use Rattle.duty_meaning.specs.Over.{IsSignatureOf};
 ghost use Rattle.duty_numbering.specs.Numbers.{numbers_of};
 ghost use Rattle.type_schema.specs.SchemaViews.{schema_of, script_of};
 ghost use Rattle.type_schema.specs.Script.{IsScript};
-ghost use Rattle.certify_problem.specs.Grounded.{IsGrounded};
 ghost use Rattle.certify_clauses.specs.InMemory.{problem_in};
-ghost use Rattle.form_formula.specs.NormalForm.{normal_form};
 ghost use Rattle.certify_scripts.specs.Passed.{ArePartsOf, HasParts, IsPartOf, IsPartOver, IsWithin};
 
 use crate::formulas::Formulas;
+use crate::grounding::Grounding;
 use certify_clauses::ListedClauses;
-use certify_problem::{Grounded, ground_formula};
+use certify_problem::Grounded;
 use certify_recheck::{RecheckErr, Spot, recheck};
 use duty_meaning::Duty;
-use duty_numbering::Numbering;
-use form_formula::{Arena, Signature};
 use sqlite_items::Items;
 use std::alloc::{AllocError, Global};
-use type_schema::TScript;
 
 /// What the part of an obligation comes to.
 #[derive(Drop)]
@@ -65,35 +61,7 @@ fn number_at(place: usize) -> Result<u32, AllocError>
     Ok(place as u32 + 1)
 }
 
-/// What the certificates of a script are checked by.
-#[derive(Drop)]
-pub(crate) struct Checking<'a, F> {
-    pub(crate) formulas: &'a F,
-    pub(crate) script: &'a TScript,
-    pub(crate) numbering: &'a Numbering,
-    pub(crate) signature: &'a Signature,
-}
-
-impl<'a, F: Formulas> Checking<'a, F> {
-    /// The clauses of an obligation, or why it has none.
-    fn grounded(&self, alloc: Global, duty: Duty) -> Result<Grounded, AllocError>
-        requires script { IsScript (script_of self.now.script.now) }
-        requires numbered { self.now.numbering.now ≡ numbers_of
-            (schema_of self.now.script.now.start) }
-        requires signature { IsSignatureOf (script_of self.now.script.now).start
-            self.now.signature.now }
-        requires listed { Contains (obligations_of (script_of self.now.script.now)) duty }
-        ensures { IfOk result (IsGrounded self.now.signature.now
-            (formula_of (script_of self.now.script.now) duty)
-            (normal_form (formula_of (script_of self.now.script.now) duty))) }
-    {
-        let mut arena = Arena::new(alloc)?;
-        let id = self
-            .formulas
-            .formula(alloc, &mut arena, self.script, self.numbering, duty)?;
-        ground_formula(alloc, &mut arena, id, self.signature)
-    }
-
+impl<'a, F: Formulas> Grounding<'a, F> {
     /// Checks the part of an obligation.
     fn part(
         &self,

@@ -13,7 +13,8 @@ ghost use Rattle.duty_meaning.specs.Over.{IsSignatureOf};
 ghost use Rattle.duty_numbering.specs.Numbers.{numbers_of};
 
 use crate::formulas::Formulas;
-use crate::parts::{Checking, Part};
+use crate::grounding::Grounding;
+use crate::parts::Part;
 use crate::rechecked::Rechecked;
 use certify_recheck::{Spot, recheck_ending, recheck_heading};
 use duty_listing::duties;
@@ -39,7 +40,7 @@ fn ended(text: &[u8], from: Spot, duties: u64) -> Rechecked
     }
 }
 
-impl<'a, F: Formulas> Checking<'a, F> {
+impl<'a, F: Formulas> Grounding<'a, F> {
     /// Checks what stands behind a first line.
     fn behind_heading(
         &self,
@@ -91,19 +92,19 @@ impl<'a, F: Formulas> Checking<'a, F> {
 /// signature.
 fn rechecked_by<F: Formulas>(
     alloc: Global,
-    checking: &Checking<'_, F>,
+    grounding: &Grounding<'_, F>,
     text: &[u8],
 ) -> Result<Rechecked, AllocError>
-    requires script { IsScript (script_of checking.now.script.now) }
-    requires numbered { checking.now.numbering.now ≡ numbers_of
-        (schema_of checking.now.script.now.start) }
-    requires signature { IsSignatureOf (script_of checking.now.script.now).start
-        checking.now.signature.now }
+    requires script { IsScript (script_of grounding.now.script.now) }
+    requires numbered { grounding.now.numbering.now ≡ numbers_of
+        (schema_of grounding.now.script.now.start) }
+    requires signature { IsSignatureOf (script_of grounding.now.script.now).start
+        grounding.now.signature.now }
     requires few { length text.now < 2 ^ 62 }
-    ensures { IfOk result (IsRechecked (script_of checking.now.script.now) text.now) }
+    ensures { IfOk result (IsRechecked (script_of grounding.now.script.now) text.now) }
 {
-    let duties = duties(alloc, checking.script)?;
-    checking.whole(alloc, duties.as_slice(), text)
+    let duties = duties(alloc, grounding.script)?;
+    grounding.whole(alloc, duties.as_slice(), text)
 }
 
 /// Checks a text as the certificate of a script: a line `certificate 1`, then for each obligation
@@ -127,11 +128,11 @@ pub fn recheck_script<F: Formulas>(
 {
     let numbering = Numbering::of(alloc, &t.start)?;
     let signature = signature_of(alloc, &t.start)?;
-    let checking = Checking {
+    let grounding = Grounding {
         formulas,
         script: t,
         numbering: &numbering,
         signature: &signature,
     };
-    rechecked_by(alloc, &checking, text)
+    rechecked_by(alloc, &grounding, text)
 }

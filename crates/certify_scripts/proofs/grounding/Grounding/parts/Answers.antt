@@ -1,6 +1,6 @@
 use Rattle.type_schema.specs.SchemaViews.{script_of}
 use Rattle.certify_scripts.proofs.PartLaws.{bad_at, cyclic_at, large_at, more_at}
-use Rattle.certify_scripts.proofs.parts.Checking.parts.Goals as goal
+use Rattle.certify_scripts.proofs.grounding.Grounding.parts.Goals as goal
 
 pub returns-in-Bad : goal.returns-in-Bad
 returns-in-Bad g c =

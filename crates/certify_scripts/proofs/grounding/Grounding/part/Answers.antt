@@ -6,7 +6,7 @@ use Rattle.certify_problem.specs.Grounded.{IsGrounded}
 use Rattle.certify_clauses.specs.InMemory.{problem_in}
 use Rattle.certify_problem.specs.declared.grounded.Grounded.{Grounded}
 use Rattle.certify_scripts.proofs.PartLaws.{ok_too, part_of}
-use Rattle.certify_scripts.proofs.parts.Checking.part.Goals as goal
+use Rattle.certify_scripts.proofs.grounding.Grounding.part.Goals as goal
 
 pub returns-in-Clauses : goal.returns-in-Clauses
 returns-in-Clauses g c =

@@ -6,7 +6,7 @@ use Rattle.form_formula.specs.Trees.{Formula}
 use Rattle.duty_meaning.proofs.Speaking.{over_and_closed}
 use Rattle.certify_problem.specs.Grounded.{IsGrounded}
 use Rattle.certify_scripts.proofs.PartLaws.{ok_too}
-use Rattle.certify_scripts.proofs.parts.Checking.grounded.Goals as goal
+use Rattle.certify_scripts.proofs.grounding.Grounding.grounded.Goals as goal
 
 pub ground_formula-requires-clause-over : goal.ground_formula-requires-clause-over
 ground_formula-requires-clause-over g c =

@@ -1,0 +1,5 @@
+pub mod Begun
+pub mod Limits
+pub mod Parts
+pub mod Proved
+pub mod Public
