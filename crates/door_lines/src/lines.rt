@@ -97,6 +97,29 @@ impl LineBuf {
     pub fn next_line<S: Source>(&mut self, src: &mut S) -> Result<Line, FlowErr>
         ensures gives { IsNextLine (S.told src.old) (S.told src.new) self.old self.new result }
         ensures placed { IfOk result (IsPlaced self.new) }
+        ensures within { self.new.taken ≤ self.new.budget }
+        ensures silent { Contains (held self.old) 10 → src.new ≡ src.old }
+        ensures spent { self.old.taken ≡ self.old.budget → src.new ≡ src.old }
+        ensures counted { result ≡ Err FlowErr.ReadFault →
+            Rose (S.faults src.old) (S.faults src.new) }
+        ensures never_falls { S.faults src.old ≤ S.faults src.new }
+    {
+        let found = self.find_line(src);
+        self.keeps_within();
+        found
+    }
+
+    /// It never takes more bytes than its budget.
+    fn keeps_within(&self)
+        ensures { self.now.taken ≤ self.now.budget }
+    {
+        let _ = &self.room;
+    }
+
+    /// The next line.
+    fn find_line<S: Source>(&mut self, src: &mut S) -> Result<Line, FlowErr>
+        ensures gives { IsNextLine (S.told src.old) (S.told src.new) self.old self.new result }
+        ensures placed { IfOk result (IsPlaced self.new) }
         ensures silent { Contains (held self.old) 10 → src.new ≡ src.old }
         ensures spent { self.old.taken ≡ self.old.budget → src.new ≡ src.old }
         ensures counted { result ≡ Err FlowErr.ReadFault →

@@ -1,5 +1,5 @@
 -- Replies as plain data, and their texts.
-use Rattle.std.specs.Prelude.{ℕ, List, [], ◌∷◌, ◌++◌, codes}
+use Rattle.std.specs.Prelude.{ℕ, Bool, true, false, List, [], ◌∷◌, ◌++◌, codes}
 use Rattle.std.specs.Fmt.{decimal}
 use Rattle.std.specs.List.{concat, join_by}
 use Rattle.type_schema.specs.declared.rights.Right.{Right}
@@ -102,3 +102,26 @@ reply_text (BadLine at) = concat (codes "bad line " ∷ decimal at ∷ codes "\n
 reply_text (Script report) = report
 reply_text (Unknown at) = concat (codes "unknown " ∷ decimal at ∷ codes "\n" ∷ [])
 reply_text NotPrincipal = codes "not principal\n"
+
+-- whether the reply may tell of a change of what is stored
+abbrev pub tells_change : Reply → Bool
+tells_change Done = true
+tells_change (Version version) = false
+tells_change (Val v) = false
+tells_change (New id) = true
+tells_change (Ids ids) = false
+tells_change Quiet = false
+tells_change (Denied what) = false
+tells_change NoRecord = false
+tells_change (Dangling field id) = false
+tells_change (Referenced model id field) = false
+tells_change (WrongShape field) = false
+tells_change (Stale session door) = false
+tells_change NoSession = false
+tells_change SessionTaken = false
+tells_change (Full what) = false
+tells_change IdsSpent = false
+tells_change (BadLine at) = false
+tells_change (Script report) = true
+tells_change (Unknown at) = false
+tells_change NotPrincipal = false

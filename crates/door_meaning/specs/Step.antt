@@ -64,8 +64,8 @@ pub data DoorStep (files : Option Files) (st : State) : Line → List Call → O
       → DoorStep files st (Whole line) [] (record { reply = BadLine at; state = st })
   TooLong : DoorStep files st Cut [] (record { reply = BadLine most_line_bytes; state = st })
 
--- The run over a list of lines, with all that is put out.
-pub data DoorRun (files : Option Files) : State → List Line → List ℕ → State → Type 0 where
-  Stands : (st : State) → DoorRun files st [] [] st
-  Steps : (st after : State) (line : Line) (lines : List Line) (calls : List Call) (outcome : Outcome) (text : List ℕ) → DoorStep files st line calls outcome
-      → DoorRun files outcome.state lines text after → DoorRun files st (line ∷ lines) (reply_text outcome.reply ++ text) after
+-- The run over a list of lines, with the calls of the shelf that it makes, in their order, and all that is put out.
+pub data DoorRun (files : Option Files) : State → List Line → List Call → List ℕ → State → Type 0 where
+  Stands : (st : State) → DoorRun files st [] [] [] st
+  Steps : (st after : State) (line : Line) (lines : List Line) (calls more : List Call) (outcome : Outcome) (text : List ℕ) → DoorStep files st line calls outcome
+      → DoorRun files outcome.state lines more text after → DoorRun files st (line ∷ lines) (calls ++ more) (reply_text outcome.reply ++ text) after

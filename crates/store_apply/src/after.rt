@@ -18,7 +18,7 @@ use type_anew::databases_move;
 use type_schema::{Schema, TScript};
 
 /// The schema after all commands.
-fn last_schema(t: &TScript) -> &Schema
+pub fn last_schema(t: &TScript) -> &Schema
     requires { IsScript (script_of t.now) }
     ensures { schema_of result.now ≡ schema_at (script_of t.now) (count (script_of t.now)) }
 {

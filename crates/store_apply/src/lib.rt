@@ -2,7 +2,7 @@
 //!
 //! | module | holds |
 //! |---|---|
-//! | `after` | [`applied`]: what a script makes of what is stored |
+//! | `after` | [`applied`]: what a script makes of what is stored; [`last_schema`]: the one it ends with |
 //! | `first` | [`initial`] and [`empty`]: what is stored at first |
 //! | `settling` | [`settle`]: a schema numbered anew, as it is stored |
 //! | `notes` | the notes of the rights that a script weakens |
@@ -17,7 +17,7 @@ mod names;
 mod notes;
 mod settling;
 
-pub use after::applied;
+pub use after::{applied, last_schema};
 pub use first::{empty, initial};
 pub use laws::{applied_one, applied_rights, script_settles, scripts_start, specs_settle};
 pub use settling::settle;

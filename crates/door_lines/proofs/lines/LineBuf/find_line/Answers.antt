@@ -1,7 +1,7 @@
 use Rattle.std.proofs.Common.{Ok}
 use Rattle.door_lines.proofs.RestLemmas.{untouched}
 use Rattle.door_lines.proofs.TurnLemmas.{given_line, placed_of}
-use Rattle.door_lines.proofs.lines.LineBuf.next_line.Goals as goal
+use Rattle.door_lines.proofs.lines.LineBuf.find_line.Goals as goal
 
 pub returns-in-Some-clause-gives : goal.returns-in-Some-clause-gives
 returns-in-Some-clause-gives g c =

@@ -1,0 +1,13 @@
+-- The plain data that parts of requests stand for.
+use Rattle.std.specs.Prelude.{map}
+use Rattle.data_records.specs.Views.{value_data}
+use Rattle.type_schema.specs.SchemaViews.{field_info_of, model_info_of}
+use Rattle.door_serve.specs.declared.creating.Making as code_making
+use Rattle.door_serve.specs.declared.writing.Setting as code_setting
+use Rattle.door_serve.specs.Changing.{Making, Setting}
+
+abbrev pub setting_data : code_setting.Setting → Setting
+setting_data set = record { info = model_info_of set.info.now; field = field_info_of set.field.now; value = value_data set.value }
+
+abbrev pub making_data : code_making.Making → Making
+making_data made = record { info = model_info_of made.info.now; row = map value_data made.row; id = made.id }
