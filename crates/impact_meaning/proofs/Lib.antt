@@ -1,0 +1,2 @@
+pub mod AsUpdates
+pub mod Weakenings

@@ -1,0 +1,5 @@
+pub mod Laws
+pub mod Listed
+pub mod Public
+pub mod Undeclared
+pub mod Weakened
