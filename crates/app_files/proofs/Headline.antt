@@ -105,7 +105,7 @@ judged-so asks (Err s) h = tt
 -- ---- calls
 
 -- Where the files ask for a script, both were fetched.
-whole : (told : Option Files) (names : Names) (calls : List (List ℕ)) (t : Script) → Asks told names calls (Ok t) → Asks told names (both_files names) (Ok t)
+pub whole : (told : Option Files) (names : Names) (calls : List (List ℕ)) (t : Script) → Asks told names calls (Ok t) → Asks told names (both_files names) (Ok t)
 whole told names calls t (Stopped s p e) = absurd cc
 whole told names calls t (Went s before after (one, p) (other, q) split) = Went s (names.spec ∷ []) (names.script ∷ []) (refl, p) (refl, q) refl
 
@@ -122,13 +122,13 @@ none-called told words calls before after status none (NoMemory e runs) = none-f
 
 -- ---- ends
 
-if-some : {A : Type 0} (o : Option A) (P : A → Type 0) → ((x : A) → o ≡ Some x → P x) → IfSome o P
+pub if-some : {A : Type 0} (o : Option A) (P : A → Type 0) → ((x : A) → o ≡ Some x → P x) → IfSome o P
 if-some None P h = tt
 if-some (Some x) P h = h x refl
 
 module _ (told : Option Files) (names : Names) (before after : Option (List ℕ)) (status : Status) where
   -- a fault or want of memory ended the run
-  faulty : status ≢ exit.Done → status ≢ exit.Leak → (status ≡ exit.ReadFault) ⊎ (status ≡ exit.WriteFault) ⊎ (status ≡ exit.OutOfMemory) → Headline told names before after status
+  pub faulty : status ≢ exit.Done → status ≢ exit.Leak → (status ≡ exit.ReadFault) ⊎ (status ≡ exit.WriteFault) ⊎ (status ≡ exit.OutOfMemory) → Headline told names before after status
   faulty not_done not_leak fault = record {
     secure = λ e. absurd (not_done e);
     leak = λ e. absurd (not_leak e);
@@ -136,12 +136,12 @@ module _ (told : Option Files) (names : Names) (before after : Option (List ℕ)
   }
 
   -- the words ask for no other script
-  one-script : (calls others : List (List ℕ)) (t u : Script) (files : Files) → told ≡ Some files → Asks told names calls (Ok t) → Asks (Some files) names others (Ok u) → t ≡ u
+  pub one-script : (calls others : List (List ℕ)) (t u : Script) (files : Files) → told ≡ Some files → Asks told names calls (Ok t) → Asks (Some files) names others (Ok u) → t ≡ u
   one-script calls others t u files is asked other =
       let same = asks-one files names calls others (Ok t) (Ok u) tt tt (subst (λ (o : Option Files). Asks o names calls (Ok t)) is asked) other in
       cc
 
-  checked : (calls : List (List ℕ)) (t : Script) → Asks told names calls (Ok t) → (o : Outcome) → Verdict t o → status ≡ outcome_status o → Appends before after (outcome_text t o)
+  pub checked : (calls : List (List ℕ)) (t : Script) → Asks told names calls (Ok t) → (o : Outcome) → Verdict t o → status ≡ outcome_status o → Appends before after (outcome_text t o)
       → Headline told names before after status
   checked calls t asked (accepted n) v e put = record {
     secure = λ _. (t, whole told names calls t asked, v.0, v.1);
@@ -172,7 +172,7 @@ module _ (told : Option Files) (names : Names) (before after : Option (List ℕ)
         absurd (v (subst (λ (z : Script). IsDecidable z) (sym (one-script calls (both_files names) t u files is asked other)) decidable)));
   }
 
-  not-done : (r : Refusal) → refusal_status r ≢ exit.Done
+  pub not-done : (r : Refusal) → refusal_status r ≢ exit.Done
   not-done refusal.Usage e = cc
   not-done (refusal.Missing name) e = cc
   not-done (refusal.TooLong name) e = cc
@@ -180,7 +180,7 @@ module _ (told : Option Files) (names : Names) (before after : Option (List ℕ)
   not-done (refusal.SpecTypes name err) e = cc
   not-done (refusal.ScriptTypes name fault) e = cc
 
-  not-leak : (r : Refusal) → refusal_status r ≢ exit.Leak
+  pub not-leak : (r : Refusal) → refusal_status r ≢ exit.Leak
   not-leak refusal.Usage e = cc
   not-leak (refusal.Missing name) e = cc
   not-leak (refusal.TooLong name) e = cc
@@ -189,7 +189,7 @@ module _ (told : Option Files) (names : Names) (before after : Option (List ℕ)
   not-leak (refusal.ScriptTypes name fault) e = cc
 
   -- where the files are refused they ask for no script
-  none-asked : (calls others : List (List ℕ)) (r : Refusal) (u : Script) (files : Files) → told ≡ Some files → ChecksFiles told names calls (Err (stop.Refused r)) → Asks (Some files) names others (Ok u) → ⊥
+  pub none-asked : (calls others : List (List ℕ)) (r : Refusal) (u : Script) (files : Files) → told ≡ Some files → ChecksFiles told names calls (Err (stop.Refused r)) → Asks (Some files) names others (Ok u) → ⊥
   none-asked calls others r u files is (Went t front back asked (none, refused) split) other = refused
   none-asked calls others r u files is (Stopped s asked e) other =
       let refused : s ≡ stop.Refused r = cc in
@@ -198,26 +198,26 @@ module _ (told : Option Files) (names : Names) (before after : Option (List ℕ)
       let differ = asks-one files names calls others (Err (stop.Refused r)) (Ok u) tt tt there other in
       cc
 
-  refused : (calls : List (List ℕ)) (r : Refusal) → ChecksFiles told names calls (Err (stop.Refused r)) → status ≡ refusal_status r → Headline told names before after status
+  pub refused : (calls : List (List ℕ)) (r : Refusal) → ChecksFiles told names calls (Err (stop.Refused r)) → status ≡ refusal_status r → Headline told names before after status
   refused calls r is e = record {
     secure = λ d. absurd (not-done r (sym e ∙ d));
     leak = λ d. absurd (not-leak r (sym e ∙ d));
     decided = if-some told _ (λ files known u other decidable. absurd (none-asked calls (both_files names) r u files known is other));
   }
 
-  found : (calls : List (List ℕ)) (c : Checked) → ChecksFiles told names calls (Ok c) → status ≡ outcome_status (outcome_data c.outcome) → Appends before after (text_of (answer.Checked c)) → Headline told names before after status
+  pub found : (calls : List (List ℕ)) (c : Checked) → ChecksFiles told names calls (Ok c) → status ≡ outcome_status (outcome_data c.outcome) → Appends before after (text_of (answer.Checked c)) → Headline told names before after status
   found calls c (Stopped s p d) e put = absurd cc
   found calls c (Went t front back asked (none, h) split) e put =
       checked front t asked (outcome_data c.outcome) (verdict t h.typed (outcome_data c.outcome) h.outcome) e
       (subst (λ (z : Script). Appends before after (outcome_text z (outcome_data c.outcome))) h.script put)
 
-  cut : status ≡ exit.WriteFault → Headline told names before after status
+  pub cut : status ≡ exit.WriteFault → Headline told names before after status
   cut e = faulty (λ d. let no : exit.WriteFault ≡ exit.Done = sym e ∙ d in cc) (λ d. let no : exit.WriteFault ≡ exit.Leak = sym e ∙ d in cc) (inr (inl e))
 
-  no_memory : status ≡ exit.OutOfMemory → Headline told names before after status
+  pub no_memory : status ≡ exit.OutOfMemory → Headline told names before after status
   no_memory e = faulty (λ d. let no : exit.OutOfMemory ≡ exit.Done = sym e ∙ d in cc) (λ d. let no : exit.OutOfMemory ≡ exit.Leak = sym e ∙ d in cc) (inr (inr e))
 
-  unread : status ≡ exit.ReadFault → Headline told names before after status
+  pub unread : status ≡ exit.ReadFault → Headline told names before after status
   unread e = faulty (λ d. let no : exit.ReadFault ≡ exit.Done = sym e ∙ d in cc) (λ d. let no : exit.ReadFault ≡ exit.Leak = sym e ∙ d in cc) (inl e)
 
   module _ (words : List (List ℕ)) (asked : check_of words ≡ Some names) where

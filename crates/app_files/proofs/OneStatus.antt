@@ -371,7 +371,7 @@ runs-one files words c d x y f g (NoCommand neither none e) (Checking names are 
 runs-one files words c d x y f g (NoCommand neither none e) (Generating n are still q) = absurd (let no = neither.1 in cc)
 runs-one files words c d x y f g (NoCommand neither none e) (NoCommand other still h) = ap answer_seen (e ∙ sym h)
 
-alike : (a b : Outcome) → standing a ≡ standing b → AreAlike (outcome_status a) (outcome_status b)
+pub alike : (a b : Outcome) → standing a ≡ standing b → AreAlike (outcome_status a) (outcome_status b)
 alike (accepted m) (accepted n) e = inl refl
 alike (accepted m) (leak v) e = absurd cc
 alike (accepted m) (undecided d cycle) e = absurd cc

@@ -42,6 +42,7 @@ IsCutOff status.WriteFault = ⊤
 IsCutOff status.StoreFault = ⊤
 IsCutOff status.OutOfMemory = ⊤
 IsCutOff status.TooLong = ⊥
+IsCutOff status.BadCertificate = ⊥
 
 -- With these the program wrote nothing.
 abbrev pub IsSilent : Status → Type 0

@@ -3,7 +3,8 @@
 ghost use Rattle.std.specs.Prelude.{◌≡◌, ◌≢◌, ℕ, List, [], ◌∷◌, Err, IfOk, None};
 ghost use Rattle.app_flow.specs.Outside.{IsRead};
 ghost use Rattle.type_proper.specs.Steady.{IsSteady};
-ghost use Rattle.type_schema.specs.SchemaViews.{schema_of};
+ghost use Rattle.type_schema.specs.Script.{IsScript};
+ghost use Rattle.type_schema.specs.SchemaViews.{schema_of, script_of};
 ghost use Rattle.type_typing.specs.Names.{plain_of};
 ghost use Rattle.app_files.specs.Answer.{Checks, ChecksFiles, Runs, ScriptOf, SpecOf};
 ghost use Rattle.app_files.specs.Loads.{Fetches};
@@ -16,12 +17,12 @@ use crate::generated::generated;
 use crate::load::fetch;
 use crate::refusal::Refusal;
 use crate::stop::Stop;
-use crate::texts::{NamedText, check_script_text, schema_of_text};
+use crate::texts::{NamedText, check_script_text, schema_of_text, script_of_text};
 use crate::words::{Names, check_of, gen_of};
 use app_flow::Shelf;
 use std::alloc::Global;
 use text_ast::Txt;
-use type_schema::Schema;
+use type_schema::{Schema, TScript};
 
 /// The schema of the specification in the file of that name.
 pub fn schema_of_file<F: Shelf>(alloc: Global, shelf: &mut F, name: &Txt) -> Result<Schema, Stop>
@@ -35,6 +36,26 @@ pub fn schema_of_file<F: Shelf>(alloc: Global, shelf: &mut F, name: &Txt) -> Res
     let text = fetch(alloc, shelf, name)?;
     let bytes = text.as_slice();
     schema_of_text(alloc, NamedText { name, bytes })
+}
+
+/// The script in the file of that name, over the schema.
+pub fn script_of_file<F: Shelf>(
+    alloc: Global,
+    shelf: &mut F,
+    schema: &Schema,
+    name: &Txt,
+) -> Result<TScript, Stop>
+    requires steady { IsSteady (schema_of schema.now) }
+    requires nothing_added { (schema_of schema.now).added ≡ [] }
+    ensures asked { ComesTo (Then (Fetches (F.told shelf.old) name.now)
+        (ScriptOf name.now (plain_of schema.now))) script_of result }
+    ensures script { IfOk result (λ t. IsScript (script_of t)) }
+    ensures shelf { IsRead F.told F.calls F.faults shelf.old shelf.new (name.now ∷ []) (result
+        ≡ Err Stop.ReadFault) }
+{
+    let text = fetch(alloc, shelf, name)?;
+    let bytes = text.as_slice();
+    script_of_text(alloc, schema, NamedText { name, bytes })
 }
 
 /// Checks the script in the file of that name, over the schema.

@@ -44,7 +44,7 @@ mod users;
 mod words;
 
 pub use answer::{Answer, Checked, Generated};
-pub use check::{check_file, schema_of_file};
+pub use check::{check_file, check_files, schema_of_file, script_of_file};
 pub use fault::Fault;
 pub use laws::{one_script, one_script_of_texts, one_status};
 pub use limits::{MOST_FILE_BYTES, limits_are};
@@ -56,4 +56,4 @@ pub use report::{print_cause, print_checked, print_refusal, print_syntax, report
 pub use status::Status;
 pub use stop::Stop;
 pub use texts::{NamedText, check_script_text, check_texts, schema_of_text};
-pub use words::{is_operand, word_of};
+pub use words::{Names, is_operand, word_of};

@@ -20,7 +20,8 @@ use text_parse::{SyntaxErr, What};
 use type_typing::TypeErr;
 
 /// The commands.
-const USAGE: &[u8] = b"usage: init SPEC [DATA], check [SPEC] SCRIPT, apply SCRIPT, show, gen N\n";
+const USAGE: &[u8] =
+    b"usage: init SPEC [DATA], check [SPEC] SCRIPT, apply SCRIPT, show, serve, gen N, prove SPEC SCRIPT, recheck SPEC SCRIPT CERT\n";
 
 /// The line on a cause for which a file, or a command of it, is refused, and its place.
 pub fn print_cause(

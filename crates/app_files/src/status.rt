@@ -38,8 +38,10 @@ pub enum Status {
     StoreFault = 12,
     /// There was not enough memory.
     OutOfMemory = 13,
-    /// A file is above the limit.
+    /// A file is above the limit, or the input of `serve` is.
     TooLong = 14,
+    /// A certificate is bad: a line of it is not the next one.
+    BadCertificate = 16,
 }
 
 impl Status {

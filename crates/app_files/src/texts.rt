@@ -44,13 +44,18 @@ pub fn schema_of_text(alloc: Global, text: NamedText<'_>) -> Result<Schema, Stop
 }
 
 /// The script that the text is, over the schema.
-fn script_of_text(alloc: Global, schema: &Schema, text: NamedText<'_>) -> Result<TScript, Stop>
+pub(crate) fn script_of_text(
+    alloc: Global,
+    schema: &Schema,
+    text: NamedText<'_>,
+) -> Result<TScript, Stop>
     requires within { length text.bytes.now ≤ MOST_FILE_BYTES }
     requires steady { IsSteady (schema_of schema.now) }
     requires nothing_added { (schema_of schema.now).added ≡ [] }
     ensures read { ComesTo (ScriptOf text.entry.name.now (plain_of schema.now)
         text.entry.bytes.now) script_of result }
     ensures script { IfOk result (λ t. IsScript (script_of t)) }
+    ensures no_fault { result ≢ Err Stop.ReadFault }
 {
     let script: Script = read(alloc, text.name, text.bytes)?;
     typed_script(alloc, text.name, schema, &script)

@@ -1,5 +1,5 @@
 //! The program over the real objects: the words from the environment, the files of the current
-//! folder, the store in it, the standard output, and the exit status.
+//! folder, the store in it, the standard input and output, and the exit status.
 //!
 //! | module | holds |
 //! |---|---|

@@ -10,6 +10,7 @@ use crate::arguments::{one_empty_word, words_of};
 use app_files::Status;
 use app_flow::{CurrentFolder, DirShelf, Shelf, Sink, StdSink};
 use app_run::run;
+use door_lines::{Source, StdSource};
 use std::alloc::{AllocError, Global};
 use std::io::ErrorKind;
 use std::process::ExitCode;
@@ -36,24 +37,25 @@ fn words_given(rt: &(impl Env + AllocGlobal)) -> Result<Vec<Txt>, AllocError> {
     }
 }
 
-/// Runs the words over the shelf, the store and the output, and gives the exit status of how the run
-/// ended.
-pub fn run_to_exit<F: Shelf, K: Keeper, W: Sink>(
+/// Runs the words over the shelf, the input, the store and the output, and gives the exit status of
+/// how the run ended.
+pub fn run_to_exit<F: Shelf, S: Source, K: Keeper, W: Sink>(
     alloc: Global,
     words: &[Txt],
     shelf: &mut F,
+    input: &mut S,
     store: &mut K,
     out: &mut W,
 ) -> ExitCode
     ensures { (status : Status) × (exit_status result ≡ code_of status)
-        × IsRun F.told F.calls F.faults K.told K.calls K.faults W.told W.faults words.now
-        shelf.old shelf.new store.old store.new out.old out.new status }
+        × IsRun F.told F.calls F.faults S.told S.faults K.told K.calls K.faults W.told W.faults
+        words.now shelf.old shelf.new input.old input.new store.old store.new out.old out.new status }
 {
-    ExitCode::from(run(alloc, words, shelf, store, out))
+    ExitCode::from(run(alloc, words, shelf, input, store, out))
 }
 
 /// Runs the words of the environment over the files of the current folder, the store in it, and the
-/// standard output.
+/// standard input and output.
 ///
 /// The store's file is opened by the first call of the store, and closed at the end. Where it cannot
 /// be closed, the file and the log beside it hold together what was stored, so the status stays.
@@ -65,7 +67,15 @@ pub fn program(rt: &HostRuntime) -> ExitCode {
     let mut shelf = DirShelf::new(CurrentFolder(rt));
     let mut store = FileKeeper::new(rt, STORE_NAME);
     let mut out = StdSink::new(io::writer(rt));
-    let code = run_to_exit(alloc, words.as_slice(), &mut shelf, &mut store, &mut out);
+    let mut input = StdSource::new(rt.reader());
+    let code = run_to_exit(
+        alloc,
+        words.as_slice(),
+        &mut shelf,
+        &mut input,
+        &mut store,
+        &mut out,
+    );
     let _closed = store.close();
     code
 }

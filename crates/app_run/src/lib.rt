@@ -1,7 +1,7 @@
 //! The program as one call.
 //!
 //! `run` answers the words of the command line over the objects that it is handed: a shelf of files,
-//! a keeper of what is stored, and a sink for the report.
+//! a source of lines, a keeper of what is stored, and a sink for the report.
 //!
 //! | module | holds |
 //! |---|---|

@@ -4,7 +4,8 @@ mod Found
 mod Headline
 mod InitDecided
 mod OneBase
-mod Ran
+mod OneStatus
+pub mod Ran
 mod Run
-mod Staged
-mod Typed
+pub mod Staged
+pub mod Typed

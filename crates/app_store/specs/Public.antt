@@ -2,7 +2,7 @@
 pub use Rattle.app_store.specs.Words.{Command, of_no_file, of_one_file, of_two_files, command_of}
 pub use Rattle.app_store.specs.Seen.{command_seen}
 pub use Rattle.app_store.specs.Calls.{Call, fetched_by, kept_by}
-pub use Rattle.app_store.specs.Told.{Told, IsKept}
+pub use Rattle.app_store.specs.Told.{Told, told_all, IsKept}
 pub use Rattle.app_store.specs.Stages.{StoreStage, StorePart, Decides, Makes}
 pub use Rattle.app_store.specs.Store.{Loads, IsFree, Holds, MayRise}
 pub use Rattle.app_store.specs.Data.{IsOfTables, IsNoData, DataOf, DataOfFile}

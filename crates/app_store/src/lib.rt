@@ -16,10 +16,12 @@
 //! | `stages` | the stages of each command |
 //! | `answer`, `report` | what is answered, and the texts that are printed |
 //! | `limits` | how long the data of `init` may be |
+//! | `laws` | that the answers to a command have one status |
 #![tactic(auto)]
 
 mod answer;
 mod data;
+mod laws;
 mod limits;
 mod program;
 mod report;
@@ -29,8 +31,10 @@ mod store;
 mod words;
 
 pub use answer::StoreAnswer;
+pub use laws::one_store_status;
 pub use limits::{MOST_DATA_BYTES, data_limit_is};
 pub use program::run_store;
-pub use report::store_report_of;
+pub use report::{print_applied, store_report_of};
 pub use stop::{StoreRefusal, StoreStop};
+pub use store::ask_held;
 pub use words::{StoreCommand, store_command_of};

@@ -86,6 +86,26 @@ fn finish<K: Keeper, W: Sink>(
     }
 }
 
+// An answer holds what is to be stored, which is long to drop by cases: so it is dropped here, and
+// not in each arm of the one who calls this.
+/// Finishes with an answer that is given away.
+fn answered<K: Keeper, W: Sink>(
+    alloc: Global,
+    answer: StoreAnswer,
+    store: &mut K,
+    out: &mut W,
+) -> Status
+    requires { IfSome (stored_by answer) IsStored }
+    ensures finished { (made : List KeepCall) × IsFinished answer (K.told store.old)
+        (K.told store.new) made (W.told out.old) (W.told out.new) result
+        × IsKept K.calls K.faults store.old store.new made (result ≡ Status.StoreFault) }
+    ensures out { IsWritten W.faults out.old out.new (IsSilent result) (result
+        ≡ Status.WriteFault) }
+    ensures not_read { result ≢ Status.ReadFault }
+{
+    finish(alloc, &answer, store, out)
+}
+
 /// Carries out a command over the store.
 ///
 /// `init SPEC` stores the specification, with a database without records; `init SPEC DATA` with
@@ -107,10 +127,10 @@ pub fn run_store<F: Shelf, K: Keeper, W: Sink>(
         (command_seen command.entry) shelf.old shelf.new store.old store.new out.old out.new result }
 {
     match answer_to_command(alloc, command, shelf, store) {
-        Ok(answer) => finish(alloc, &answer, store, out),
-        Err(StoreStop::Refused(why)) => finish(alloc, &StoreAnswer::Refused(why), store, out),
+        Ok(answer) => answered(alloc, answer, store, out),
+        Err(StoreStop::Refused(why)) => answered(alloc, StoreAnswer::Refused(why), store, out),
         Err(StoreStop::Files(Stop::Refused(why))) => {
-            finish(alloc, &StoreAnswer::FilesRefused(why), store, out)
+            answered(alloc, StoreAnswer::FilesRefused(why), store, out)
         }
         Err(StoreStop::Files(Stop::ReadFault)) => Status::ReadFault,
         Err(StoreStop::Files(Stop::OutOfMemory)) => Status::OutOfMemory,

@@ -21,7 +21,7 @@ fn ok_version_text(alloc: Global, version: u64) -> Result<Vec<u8>, AllocError>
 }
 
 /// The line on a script that was carried out.
-fn applied_text(alloc: Global, obligations: u64, version: u64) -> Result<Vec<u8>, AllocError>
+pub fn print_applied(alloc: Global, obligations: u64, version: u64) -> Result<Vec<u8>, AllocError>
     ensures { IfOk result (λ text. text.items ≡ spec.applied_text obligations version) }
 {
     let count = obligations.to_string(alloc)?;
@@ -80,7 +80,7 @@ pub fn store_report_of(alloc: Global, answer: &StoreAnswer) -> Result<Vec<u8>, A
         StoreAnswer::Initialised(after) => ok_version_text(alloc, after.version),
         StoreAnswer::Checked(checked) => print_checked(alloc, checked),
         StoreAnswer::Applied(obligations, after) => {
-            applied_text(alloc, *obligations, after.version)
+            print_applied(alloc, *obligations, after.version)
         }
         StoreAnswer::Shown(held) => print_stored(alloc, held),
         StoreAnswer::FilesRefused(refusal) => print_refusal(alloc, refusal),

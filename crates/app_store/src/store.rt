@@ -45,7 +45,7 @@ pub(crate) fn ask_free<K: Keeper>(alloc: Global, store: &mut K) -> Result<(), St
 }
 
 /// What is stored.
-pub(crate) fn ask_held<K: Keeper>(alloc: Global, store: &mut K) -> Result<Stored, StoreStop>
+pub fn ask_held<K: Keeper>(alloc: Global, store: &mut K) -> Result<Stored, StoreStop>
     ensures held { ComesTo (Then (Loads (K.told store.old)) Holds) stored_of result }
     ensures stored { IfOk result (λ s. IsStored (stored_of s)) }
     ensures store { IsKept K.calls K.faults store.old store.new (Load ∷ []) (result

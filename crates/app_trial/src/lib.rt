@@ -6,7 +6,7 @@
 //! | `memory` | `File`, `Ended`, `run_over` and its like, over objects in memory |
 //! | `stored` | what is stored, under another version |
 //! | `texts` | `check_bytes`, over texts that nobody fetches |
-//! | `program` | `run_over_objects`, over any shelf, store and sink |
+//! | `program` | `run_over_input` over any objects, and `run_over_objects` without an input |
 #![tactic(auto)]
 
 mod memory;
@@ -15,8 +15,9 @@ mod stored;
 mod texts;
 
 pub use memory::{
-    Ended, Failing, File, check_texts, run_failing, run_over, run_over_store, words_of,
+    Ended, Failing, File, Input, check_texts, run_failing, run_over, run_over_store,
+    run_with_input, words_of,
 };
-pub use program::run_over_objects;
+pub use program::{run_over_input, run_over_objects};
 pub use stored::at_last_version;
 pub use texts::check_bytes;

@@ -1,8 +1,9 @@
 //! The program over objects in memory.
 
-use crate::program::run_over_objects;
+use crate::program::run_over_input;
 use app_files::Status;
 use app_flow::{MemFile, MemShelf, MemSink};
+use door_lines::MemSource;
 use std::alloc::{AllocError, Global};
 use store_keeper::{Keeper, SureKeeper};
 use text_ast::Txt;
@@ -12,6 +13,9 @@ const OUTPUT_BYTES: usize = 262_144;
 
 /// How many bytes the output takes at one put.
 const PUT_BYTES: usize = 7;
+
+/// How many bytes the input gives at once.
+const TAKE_BYTES: usize = 5;
 
 /// A file in memory: its name and its text.
 #[derive(Clone, Copy)]
@@ -42,6 +46,15 @@ pub struct Failing<'t> {
     pub puts: &'t [u64],
 }
 
+/// An input: its bytes, and which calls of it fail.
+#[derive(Clone, Copy)]
+pub struct Input<'t> {
+    /// The bytes.
+    pub text: &'t [u8],
+    /// The calls that take bytes.
+    pub takes: &'t [u64],
+}
+
 /// The texts as words. One that is no word is left out.
 pub fn words_of(alloc: Global, texts: &[&str]) -> Result<Vec<Txt>, AllocError> {
     let mut words = Vec::new(alloc);
@@ -65,8 +78,40 @@ fn shelf_of(alloc: Global, files: &[File<'_>], failing: &[u64]) -> Result<MemShe
     Ok(MemShelf::new(alloc, kept, Vec::from_slice(alloc, failing)?))
 }
 
-/// Runs the words over the files and the store, with an output that takes at most seven bytes at
-/// once. The fetches and the puts of these numbers, from 0, fail.
+/// Runs the words over the files, the input and the store, with an output that takes at most seven
+/// bytes at once. The calls of these numbers, from 0, fail.
+pub fn run_with_input<K: Keeper>(
+    alloc: Global,
+    words: &[&str],
+    files: &[File<'_>],
+    input: Input<'_>,
+    store: &mut K,
+    failing: Failing<'_>,
+) -> Result<Ended, AllocError> {
+    let words = words_of(alloc, words)?;
+    let mut shelf = shelf_of(alloc, files, failing.fetches)?;
+    let mut input = MemSource::new(
+        Vec::from_slice(alloc, input.text)?,
+        TAKE_BYTES,
+        Vec::from_slice(alloc, input.takes)?,
+    );
+    let mut out = MemSink::new(
+        alloc,
+        OUTPUT_BYTES,
+        PUT_BYTES,
+        Vec::from_slice(alloc, failing.puts)?,
+    )?;
+    let words = words.as_slice();
+    let status = run_over_input(alloc, words, &mut shelf, &mut input, store, &mut out);
+    Ok(Ended {
+        status,
+        output: Vec::from_slice(alloc, out.bytes())?,
+        fetches: shelf.fetches(),
+    })
+}
+
+/// Runs the words over the files and the store, without an input. The fetches and the puts of these
+/// numbers, from 0, fail.
 pub fn run_over_store<K: Keeper>(
     alloc: Global,
     words: &[&str],
@@ -74,20 +119,11 @@ pub fn run_over_store<K: Keeper>(
     store: &mut K,
     failing: Failing<'_>,
 ) -> Result<Ended, AllocError> {
-    let words = words_of(alloc, words)?;
-    let mut shelf = shelf_of(alloc, files, failing.fetches)?;
-    let mut out = MemSink::new(
-        alloc,
-        OUTPUT_BYTES,
-        PUT_BYTES,
-        Vec::from_slice(alloc, failing.puts)?,
-    )?;
-    let status = run_over_objects(alloc, words.as_slice(), &mut shelf, store, &mut out);
-    Ok(Ended {
-        status,
-        output: Vec::from_slice(alloc, out.bytes())?,
-        fetches: shelf.fetches(),
-    })
+    let input = Input {
+        text: b"",
+        takes: &[],
+    };
+    run_with_input(alloc, words, files, input, store, failing)
 }
 
 /// Runs the words over the files, with a store that holds nothing. The fetches and the puts of

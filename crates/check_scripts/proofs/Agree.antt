@@ -47,7 +47,7 @@ by-parts a b e fs gs f ss ts k x =
     (subst (λ (us : List SetSig). (y : IsTrue (is_signature a fs us)) → parts a fs ss x ≡ parts a fs us y) k
     (λ y. ap (parts a fs ss) (true-prop (is_signature a fs ss) x y))))
 
-one-signature : (s : Schema) (g h : Signature) → IsSignatureOf s g → IsSignatureOf s h → g ≡ h
+pub one-signature : (s : Schema) (g h : Signature) → IsSignatureOf s g → IsSignatureOf s h → g ≡ h
 one-signature s g h p q = by-parts g.sorts h.sorts (p.sorts ∙ sym q.sorts) g.funs h.funs (p.functions ∙ sym q.functions) g.sets h.sets (p.relations ∙ sym q.relations) g.fits h.fits
 
 -- a formula is not both cleared and open, nor cleared and too large

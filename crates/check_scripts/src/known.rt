@@ -26,7 +26,7 @@ struct Entry {
 /// Some formulas that were cleared over a signature: one that is equal need not be decided again.
 /// Which of them are kept rests on no proof. Contracts see the signature.
 #[derive(Drop)]
-pub(crate) struct Known<'a> {
+pub struct Known<'a> {
     signature: &'a Signature,
     entries: Vec<Entry>,
 }
@@ -45,7 +45,7 @@ impl<'a> Model for Known<'a> {
 
 impl<'a> Known<'a> {
     /// None over this signature.
-    pub(crate) fn new(alloc: Global, signature: &'a Signature) -> Known<'a>
+    pub fn new(alloc: Global, signature: &'a Signature) -> Known<'a>
         ensures { result ≡ signature.now }
     {
         Known {

@@ -29,9 +29,11 @@ mod scripts;
 mod witnesses;
 
 pub use formulas::Formulas;
+pub use known::Known;
 pub use laws::{
     accepted_are_secure, cleared_do_not_fail, decidable_are_settled, leaks_are_real,
     outcomes_agree, picked_witnesses_fail,
 };
+pub use obligations::{models_of_cycle, unsettled};
 pub use outcome::Outcome;
 pub use scripts::check_script;

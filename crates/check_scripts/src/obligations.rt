@@ -139,7 +139,11 @@ fn models_of_sorts(alloc: Global, t: &TScript, sorts: &[u32]) -> Result<Items<Mo
 }
 
 /// The models of a cycle of sorts whose first is repeated last, each once.
-fn models_of_cycle(alloc: Global, t: &TScript, cycle: &[u32]) -> Result<Items<ModelNo>, AllocError>
+pub fn models_of_cycle(
+    alloc: Global,
+    t: &TScript,
+    cycle: &[u32],
+) -> Result<Items<ModelNo>, AllocError>
     ensures { IfOk result (λ models. models ≡ spec.models_of_cycle (script_of t.now) cycle.now) }
 {
     models_of_sorts(alloc, t, &cycle[..cycle.len().saturating_sub(1)])

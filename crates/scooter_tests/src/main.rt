@@ -6,12 +6,13 @@
 mod tests;
 
 use app_flow::{CurrentFolder, DirShelf, StdSink};
-use app_trial::{run_over_objects, words_of};
+use app_trial::{run_over_input, words_of};
+use door_lines::SureSource;
 use std::io;
 use store_keeper::SureKeeper;
 
 /// The words of each command that README.md shows.
-const COMMANDS: [&[&str]; 18] = [
+const COMMANDS: [&[&str]; 19] = [
     &["check", "notes.spec", "robots.scm"],
     &["check", "groups.spec", "minutes.scm"],
     &["check", "groups.spec", "minutes-mended.scm"],
@@ -30,7 +31,23 @@ const COMMANDS: [&[&str]; 18] = [
     &["apply", "minutes.scm"],
     &["apply", "open-house.scm"],
     &["show"],
+    &["serve"],
 ];
+
+/// The lines of the session that README.md shows.
+const LINES: &[u8] = b"open ada as User @1
+open ben as User @2
+read ben Group @1 minutes
+find ben Membership {user: @2, level > 1}
+write ben Group @1 minutes \"We have no money.\"
+write ada Group @1 minutes \"We have no money.\"
+create ada Membership {user: @2, group: @2, level: 3}
+delete ben Membership @3
+migrate \"minutes-mended.scm\"
+read ben Group @1 minutes
+renew ben
+read ben Group @1 minutes
+";
 
 /// Prints the command as somebody types it.
 fn print_command(rt: &HostRuntime, command: &[&str]) -> io::Result<()> {
@@ -41,13 +58,15 @@ fn print_command(rt: &HostRuntime, command: &[&str]) -> io::Result<()> {
     println!(rt)
 }
 
-/// Runs the command over the files of the folder and the store, and prints its status.
+/// Runs the command over the files of the folder, the lines and the store, and prints its status.
 fn answer(rt: &HostRuntime, command: &[&str], store: &mut SureKeeper) -> io::Result<()> {
     let alloc = rt.alloc();
     let words = words_of(alloc, command)?;
     let mut shelf = DirShelf::new(CurrentFolder(rt));
+    let mut input = SureSource::new(Vec::from_slice(alloc, LINES)?);
     let mut out = StdSink::new(io::writer(rt));
-    let status = run_over_objects(alloc, words.as_slice(), &mut shelf, store, &mut out);
+    let words = words.as_slice();
+    let status = run_over_input(alloc, words, &mut shelf, &mut input, store, &mut out);
     println!(rt; "status {}", status.code())
 }
 

@@ -40,6 +40,9 @@ const FILES: [File<'static>; 8] = [
     },
 ];
 
+const USAGE: &[u8] =
+    b"usage: init SPEC [DATA], check [SPEC] SCRIPT, apply SCRIPT, show, serve, gen N, prove SPEC SCRIPT, recheck SPEC SCRIPT CERT\n";
+
 /// What the first words do over the files, where the calls of these numbers fail.
 struct Row {
     words: &'static [&'static str],
@@ -67,7 +70,7 @@ const REFUSALS: [Row; 22] = [
         fetches: &[0],
         puts: &[],
         status: Status::Usage,
-        output: b"usage: init SPEC [DATA], check [SPEC] SCRIPT, apply SCRIPT, show, gen N\n",
+        output: USAGE,
         fetched: 0,
     },
     Row {
@@ -75,7 +78,7 @@ const REFUSALS: [Row; 22] = [
         fetches: &[0],
         puts: &[],
         status: Status::Usage,
-        output: b"usage: init SPEC [DATA], check [SPEC] SCRIPT, apply SCRIPT, show, gen N\n",
+        output: USAGE,
         fetched: 0,
     },
     Row {
@@ -83,7 +86,7 @@ const REFUSALS: [Row; 22] = [
         fetches: &[0],
         puts: &[],
         status: Status::Usage,
-        output: b"usage: init SPEC [DATA], check [SPEC] SCRIPT, apply SCRIPT, show, gen N\n",
+        output: USAGE,
         fetched: 0,
     },
     Row {
@@ -91,7 +94,7 @@ const REFUSALS: [Row; 22] = [
         fetches: &[0],
         puts: &[],
         status: Status::Usage,
-        output: b"usage: init SPEC [DATA], check [SPEC] SCRIPT, apply SCRIPT, show, gen N\n",
+        output: USAGE,
         fetched: 0,
     },
     Row {
@@ -99,7 +102,7 @@ const REFUSALS: [Row; 22] = [
         fetches: &[0],
         puts: &[],
         status: Status::Usage,
-        output: b"usage: init SPEC [DATA], check [SPEC] SCRIPT, apply SCRIPT, show, gen N\n",
+        output: USAGE,
         fetched: 0,
     },
     Row {
@@ -107,7 +110,7 @@ const REFUSALS: [Row; 22] = [
         fetches: &[0],
         puts: &[],
         status: Status::Usage,
-        output: b"usage: init SPEC [DATA], check [SPEC] SCRIPT, apply SCRIPT, show, gen N\n",
+        output: USAGE,
         fetched: 0,
     },
     Row {
@@ -115,7 +118,7 @@ const REFUSALS: [Row; 22] = [
         fetches: &[0],
         puts: &[],
         status: Status::Usage,
-        output: b"usage: init SPEC [DATA], check [SPEC] SCRIPT, apply SCRIPT, show, gen N\n",
+        output: USAGE,
         fetched: 0,
     },
     Row {
@@ -123,7 +126,7 @@ const REFUSALS: [Row; 22] = [
         fetches: &[0],
         puts: &[],
         status: Status::Usage,
-        output: b"usage: init SPEC [DATA], check [SPEC] SCRIPT, apply SCRIPT, show, gen N\n",
+        output: USAGE,
         fetched: 0,
     },
     Row {
@@ -131,7 +134,7 @@ const REFUSALS: [Row; 22] = [
         fetches: &[0],
         puts: &[],
         status: Status::Usage,
-        output: b"usage: init SPEC [DATA], check [SPEC] SCRIPT, apply SCRIPT, show, gen N\n",
+        output: USAGE,
         fetched: 0,
     },
     Row {
@@ -139,7 +142,7 @@ const REFUSALS: [Row; 22] = [
         fetches: &[0],
         puts: &[],
         status: Status::Usage,
-        output: b"usage: init SPEC [DATA], check [SPEC] SCRIPT, apply SCRIPT, show, gen N\n",
+        output: USAGE,
         fetched: 0,
     },
     Row {
@@ -147,7 +150,7 @@ const REFUSALS: [Row; 22] = [
         fetches: &[0],
         puts: &[],
         status: Status::Usage,
-        output: b"usage: init SPEC [DATA], check [SPEC] SCRIPT, apply SCRIPT, show, gen N\n",
+        output: USAGE,
         fetched: 0,
     },
     Row {
@@ -155,7 +158,7 @@ const REFUSALS: [Row; 22] = [
         fetches: &[0],
         puts: &[],
         status: Status::Usage,
-        output: b"usage: init SPEC [DATA], check [SPEC] SCRIPT, apply SCRIPT, show, gen N\n",
+        output: USAGE,
         fetched: 0,
     },
     Row {
@@ -163,7 +166,7 @@ const REFUSALS: [Row; 22] = [
         fetches: &[0],
         puts: &[],
         status: Status::Usage,
-        output: b"usage: init SPEC [DATA], check [SPEC] SCRIPT, apply SCRIPT, show, gen N\n",
+        output: USAGE,
         fetched: 0,
     },
     Row {

@@ -4,6 +4,7 @@ use app_files::Status;
 use app_flow::{MemFile, SureShelf, SureSink};
 use app_run::run_surely;
 use app_trial::words_of;
+use door_lines::SureSource;
 use std::alloc::AllocError;
 use std::test::Fail;
 use store_keeper::SureKeeper;
@@ -22,7 +23,15 @@ fn accepted_over_sure_objects(rt: HostRuntime) -> Result<(), Fail> {
     let mut shelf = SureShelf::new(alloc, files);
     let mut store = SureKeeper::new(alloc, None);
     let mut out = SureSink::new(alloc, 64)?;
-    let status = run_surely(alloc, words.as_slice(), &mut shelf, &mut store, &mut out);
+    let mut input = SureSource::new(Vec::new(alloc));
+    let status = run_surely(
+        alloc,
+        words.as_slice(),
+        &mut shelf,
+        &mut input,
+        &mut store,
+        &mut out,
+    );
     assert_eq!(rt; status, Status::Done);
     assert!(rt; out.bytes() == Some(b"accepted obligations 0\n".as_slice()));
     Ok(())

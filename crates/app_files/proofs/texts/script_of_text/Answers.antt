@@ -1,7 +1,9 @@
 use Rattle.std.proofs.Common.{rules, ◌≡◌}
 use Rattle.std.specs.Prelude.{Err}
 use Rattle.type_schema.specs.SchemaViews.{script_of}
-use Rattle.app_files.proofs.InTurn.{comes-stopped, comes-behind}
+use Rattle.type_typing.specs.Names.{plain_of}
+use Rattle.app_files.specs.Answer.{ScriptOf}
+use Rattle.app_files.proofs.InTurn.{comes-stopped, comes-behind, comes-quiet, script-quiet}
 use Rattle.app_files.proofs.texts.script_of_text.Goals as goal
 
 pub typed_script-requires-clause-spelled : goal.typed_script-requires-clause-spelled
@@ -14,3 +16,13 @@ returns-in_err-script-clause-read c =
 
 pub returns-clause-read : goal.returns-clause-read
 returns-clause-read c = comes-behind _ _ script_of _ c.in_ok-script.script c.in_ok-script.ensures c.typed_script.ensures.types
+
+pub returns-in_err-script-clause-no_fault : goal.returns-in_err-script-clause-no_fault
+returns-in_err-script-clause-no_fault c =
+    comes-quiet (ScriptOf c.args.text.name.now (plain_of c.args.schema.now) c.args.text.bytes.now) script_of c.from_residual.result
+    (script-quiet c.args.text.name.now (plain_of c.args.schema.now) c.args.text.bytes.now) (returns-in_err-script-clause-read c)
+
+pub returns-clause-no_fault : goal.returns-clause-no_fault
+returns-clause-no_fault c =
+    comes-quiet (ScriptOf c.args.text.name.now (plain_of c.args.schema.now) c.args.text.bytes.now) script_of c.typed_script.result
+    (script-quiet c.args.text.name.now (plain_of c.args.schema.now) c.args.text.bytes.now) (returns-clause-read c)

@@ -10,24 +10,24 @@ use Rattle.app_store.proofs.program.run_store.Goals as goal
 pub returns-in-Ok : goal.returns-in-Ok
 returns-in-Ok g c =
     let ran = c.in-Ok.ensures.ran in
-    let (made, finished, kept) = c.finish.ensures.finished in
+    let (made, finished, kept) = c.answered.ensures.finished in
     run-of g.F.Shelf.told g.F.Shelf.calls g.F.Shelf.faults g.K.Keeper.told g.K.Keeper.calls g.K.Keeper.faults g.W.Sink.told g.W.Sink.faults _ _ _ _ _ _ _ _ _ (Ok c.in-Ok.answer) ran c.in-Ok.answer
-    (passed-on _ _ ran.calls c.in-Ok.answer ran.came) made finished kept c.finish.ensures.out c.finish.ensures.not_read
+    (passed-on _ _ ran.calls c.in-Ok.answer ran.came) made finished kept c.answered.ensures.out c.answered.ensures.not_read
 
 pub returns-in-Err-Refused : goal.returns-in-Err-Refused
 returns-in-Err-Refused g c =
     let ran = rw c.in-Err-Refused.field-0-is at c.in-Err-Refused.ensures.ran in
-    let (made, finished, kept) = c.finish-in-Err-Refused.ensures.finished in
+    let (made, finished, kept) = c.answered-in-Err-Refused.ensures.finished in
     run-of g.F.Shelf.told g.F.Shelf.calls g.F.Shelf.faults g.K.Keeper.told g.K.Keeper.calls g.K.Keeper.faults g.W.Sink.told g.W.Sink.faults _ _ _ _ _ _ _ _ _ (Err (why.Refused c.in-Err-Refused.why)) ran
-    (answer.Refused c.in-Err-Refused.why) ran.came made finished kept c.finish-in-Err-Refused.ensures.out c.finish-in-Err-Refused.ensures.not_read
+    (answer.Refused c.in-Err-Refused.why) ran.came made finished kept c.answered-in-Err-Refused.ensures.out c.answered-in-Err-Refused.ensures.not_read
 
 pub returns-in-Err-Files-Refused : goal.returns-in-Err-Files-Refused
 returns-in-Err-Files-Refused g c =
     let is = c.in-Err-Files-Refused.field-0-is ∙ ap why.Files c.in-Err-Files-Refused.field-0-0-is in
     let ran = rw is at c.in-Err-Files-Refused.ensures.ran in
-    let (made, finished, kept) = c.finish-in-Err-Files-Refused.ensures.finished in
+    let (made, finished, kept) = c.answered-in-Err-Files-Refused.ensures.finished in
     run-of g.F.Shelf.told g.F.Shelf.calls g.F.Shelf.faults g.K.Keeper.told g.K.Keeper.calls g.K.Keeper.faults g.W.Sink.told g.W.Sink.faults _ _ _ _ _ _ _ _ _ (Err (why.Files (stop.Refused c.in-Err-Files-Refused.why))) ran
-    (answer.FilesRefused c.in-Err-Files-Refused.why) ran.came made finished kept c.finish-in-Err-Files-Refused.ensures.out c.finish-in-Err-Files-Refused.ensures.not_read
+    (answer.FilesRefused c.in-Err-Files-Refused.why) ran.came made finished kept c.answered-in-Err-Files-Refused.ensures.out c.answered-in-Err-Files-Refused.ensures.not_read
 
 pub returns-in-Err-Files-ReadFault : goal.returns-in-Err-Files-ReadFault
 returns-in-Err-Files-ReadFault g c =

@@ -1,4 +1,4 @@
-use Rattle.std.proofs.Common.{[], ◌∷◌, refl}
+use Rattle.std.proofs.Common.{[], ◌∷◌, refl, rules}
 use Rattle.app_store.specs.Calls.{Fetch}
 use Rattle.app_store.proofs.stages.base_over.Goals as goal
 
@@ -8,4 +8,12 @@ returns-in-Some-clause-asked g c = rw c.in-Some.is (
   (refl, c.base_of_file.ensures.read),
   refl,
   c.base_of_file.ensures.shelf,
+)
+
+pub returns-in_ok-empty-in-None-clause-asked : goal.returns-in_ok-empty-in-None-clause-asked
+returns-in_ok-empty-in-None-clause-asked g c = rw c.in-None.is (
+  [],
+  (refl, c.in_ok-empty-in-None.ensures.empty),
+  refl,
+  search rules,
 )

@@ -1,0 +1,9 @@
+pub mod Answer
+pub mod Ends
+pub mod Headline
+pub mod Proved
+pub mod Public
+pub mod Report
+pub mod Run
+pub mod Seen
+pub mod Words

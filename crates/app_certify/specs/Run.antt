@@ -1,0 +1,40 @@
+-- A run of a command on certificates, all of it in one.
+use Rattle.std.specs.Prelude.{◌≡◌, ◌≢◌, ℕ, List, Option}
+use Rattle.app_flow.specs.Files.{Files}
+use Rattle.app_flow.specs.Outside.{IsRead, IsWritten}
+use Rattle.app_files.specs.Ends.{IsSilent}
+use Rattle.app_files.specs.Words.{Names}
+use Rattle.app_files.specs.declared.status.Status.{Status}
+use Rattle.app_files.specs.declared.status.Status.TheVariants.{ReadFault, WriteFault, StoreFault}
+use Rattle.app_certify.specs.Ends.{RecheckEnds}
+use Rattle.app_certify.specs.Headline.{ProveHeadline, RecheckHeadline}
+use Rattle.app_certify.specs.Proved.{ProveEnds}
+use Rattle.app_certify.specs.Words.{Command, Prove, Recheck}
+
+-- The command came to this status, over a shelf that holds `files`, tells what was `fetched` and counted `unread` faults, and an output that `told` its bytes
+-- and counted `unwritten` ones; both as they were before and as they are after.
+module _ {F W : Type 0} (files : F → Option Files) (fetched : F → Option (List (List ℕ))) (unread : F → ℕ) (told : W → Option (List ℕ)) (unwritten : W → ℕ) where
+  pub record IsProveRun (names : Names) (shelf shelf_after : F) (out out_after : W) (status : Status) : Type 0 where
+    -- the names that were fetched, in their order
+    pub calls : List (List ℕ)
+    pub ends : ProveEnds (files shelf) names calls (told out) (told out_after) status
+    -- what the status says of the script in the files
+    pub headline : ProveHeadline (files shelf) names (told out) (told out_after) status
+    -- just these names were fetched, and the shelf is as it was where there are none
+    pub read : IsRead files fetched unread shelf shelf_after calls (status ≡ ReadFault)
+    -- for want of memory a front of the certificate may have been put
+    pub written : IsWritten unwritten out out_after (status ≡ ReadFault) (status ≡ WriteFault)
+    -- no store is called
+    pub not_kept : status ≢ StoreFault
+
+  pub record IsRecheckRun (names : Names) (cert : List ℕ) (shelf shelf_after : F) (out out_after : W) (status : Status) : Type 0 where
+    pub calls : List (List ℕ)
+    pub ends : RecheckEnds (files shelf) names cert calls (told out) (told out_after) status
+    pub headline : RecheckHeadline (files shelf) names cert (told out) (told out_after) status
+    pub read : IsRead files fetched unread shelf shelf_after calls (status ≡ ReadFault)
+    pub written : IsWritten unwritten out out_after (IsSilent status) (status ≡ WriteFault)
+    pub not_kept : status ≢ StoreFault
+
+  abbrev pub IsCertifyRun : Command → (shelf shelf_after : F) → (out out_after : W) → Status → Type 0
+  IsCertifyRun (Prove names) shelf shelf_after out out_after status = IsProveRun names shelf shelf_after out out_after status
+  IsCertifyRun (Recheck names cert) shelf shelf_after out out_after status = IsRecheckRun names cert shelf shelf_after out out_after status
