@@ -27,4 +27,4 @@ pub use duties::duty_formula;
 pub use flows::flow_formula;
 pub use gains::gain_formula;
 pub use numbered::Numbered;
-pub use policies::policy_at;
+pub use policies::policy_in_force;

@@ -88,7 +88,7 @@ fn model_policy(schema: &Schema, m: ModelNo, right: Right) -> Option<&TPolicy>
 }
 
 /// The policy of a right on its target that is in force after k commands.
-pub fn policy_at(t: &TScript, k: usize, target: Target, right: Right) -> Option<&TPolicy>
+pub fn policy_in_force(t: &TScript, k: usize, target: Target, right: Right) -> Option<&TPolicy>
     ensures { option_map (λ policy. policy_of policy.now) result
         ≡ gain.policy_at (script_of t.now) k target right }
 {

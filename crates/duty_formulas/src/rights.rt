@@ -7,7 +7,7 @@ ghost use Rattle.duty_builder.specs.Values.{who_data};
 ghost use Rattle.duty_writer.specs.Made.{Makes};
 
 use crate::numbered::Numbered;
-use crate::policies::policy_at;
+use crate::policies::policy_in_force;
 use duty_builder::{MOST_FUEL, Start, Who, allowed};
 use duty_writer::{MakeErr, Term, Writer};
 use type_schema::{Right, Target};
@@ -28,7 +28,7 @@ pub(crate) fn right_at(
     ensures { Makes w.old result w.new (has_right (script_of of.now.script.now)
         k target right (term_data row.now) (who_data who.now) sign above) }
 {
-    let Some(policy) = policy_at(of.script, k, target, right) else {
+    let Some(policy) = policy_in_force(of.script, k, target, right) else {
         return w.constant(!sign);
     };
     let start = of.start_at(k);
