@@ -20,7 +20,7 @@ LAYERS = {
     "text": "Texts and trees", "type": "Types", "data": "Databases, and what scripts mean on them", "duty": "Obligations and their formulas",
     "form": "Formulas and terms", "ground": "Formulas over terms", "solve": "Clauses", "decide": "Verdicts on formulas",
     "check": "Verdicts on scripts", "store": "The store", "door": "The door",
-    "certify": "Certificates", "impact": "What weakenings newly allow", "app": "The program",
+    "certify": "Certificates", "impact": "What weakenings newly allow", "online": "Online migrations", "app": "The program",
 }
 PROGRAM = {"link_arena": "solve", "scooter": "app"}
 IMPORT = re.compile(r"^\s*(?:ghost |pub )*use Rattle\.(\w+)\.specs\.([\w.]+?)(?:\.\{([^}]*)\}| as (\w+))?;?\s*$")

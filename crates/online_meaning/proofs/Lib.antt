@@ -1,0 +1,16 @@
+pub mod Agreed
+pub mod Alike
+pub mod Changed
+pub mod Commands
+pub mod Ends
+pub mod Lasting
+pub mod Plain
+pub mod Queues
+pub mod Ranges
+pub mod Settled
+pub mod Switches
+pub mod There
+pub mod Touching
+pub mod Unmarked
+pub mod Widening
+pub mod WorkedRollouts

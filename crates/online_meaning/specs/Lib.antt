@@ -1,0 +1,9 @@
+pub mod Deep
+pub mod Events
+pub mod Finds
+pub mod Laws
+pub mod Marks
+pub mod Public
+pub mod Rollouts
+pub mod Settled
+pub mod Worked
