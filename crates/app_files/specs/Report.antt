@@ -11,7 +11,7 @@ use Rattle.type_typing.specs.declared.type_err.TypeErr.TheVariants as types
 use Rattle.app_files.specs.declared.fault.Fault.{Fault}
 
 abbrev pub usage_text : List ℕ
-usage_text = codes "usage: init SPEC [DATA], check [SPEC] SCRIPT, apply SCRIPT, show, serve, gen N, prove SPEC SCRIPT, recheck SPEC SCRIPT CERT\n"
+usage_text = codes "usage: init SPEC [DATA], check [SPEC] SCRIPT, apply SCRIPT, show, serve, gen N, prove SPEC SCRIPT, recheck SPEC SCRIPT CERT, impact SPEC SCRIPT\n"
 
 abbrev pub missing_text : List ℕ → List ℕ
 missing_text name = concat (codes "missing " ∷ name ∷ codes "\n" ∷ [])

@@ -46,6 +46,7 @@ mod words;
 pub use answer::{Answer, Checked, Generated};
 pub use check::{check_file, check_files, schema_of_file, script_of_file};
 pub use fault::Fault;
+pub use formulas::DutyFormulas;
 pub use laws::{one_script, one_script_of_texts, one_status};
 pub use limits::{MOST_FILE_BYTES, limits_are};
 pub use load::fetch_within;

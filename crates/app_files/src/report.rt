@@ -21,7 +21,7 @@ use type_typing::TypeErr;
 
 /// The commands.
 const USAGE: &[u8] =
-    b"usage: init SPEC [DATA], check [SPEC] SCRIPT, apply SCRIPT, show, serve, gen N, prove SPEC SCRIPT, recheck SPEC SCRIPT CERT\n";
+    b"usage: init SPEC [DATA], check [SPEC] SCRIPT, apply SCRIPT, show, serve, gen N, prove SPEC SCRIPT, recheck SPEC SCRIPT CERT, impact SPEC SCRIPT\n";
 
 /// The line on a cause for which a file, or a command of it, is refused, and its place.
 pub fn print_cause(

@@ -5,9 +5,11 @@ use Rattle.std.specs.Fmt.{decimal}
 use Rattle.std.specs.List.{concat, flat_map}
 use Rattle.type_schema.specs.declared.rights.Kind.{Kind}
 use Rattle.type_schema.specs.declared.rights.Kind.TheVariants.{Static, Model}
+use Rattle.type_schema.specs.declared.rights.Target.{Target}
+use Rattle.type_schema.specs.declared.rights.Target.TheVariants as on
 use Rattle.type_schema.specs.Script.{Script}
 use Rattle.duty_meaning.specs.declared.duty.Duty.{Duty}
-use Rattle.check_witness.specs.Printed.{model_text, static_text, access_text}
+use Rattle.check_witness.specs.Printed.{model_text, static_text, field_text, access_text}
 
 -- which use of a field in an initialiser, counted from 1; an obligation against gains has none
 abbrev pub use_text : Option ℕ → List ℕ
@@ -15,6 +17,11 @@ use_text None = []
 use_text (Some n) = codes " use " ++ decimal n
 
 module _ (t : Script) where
+  -- what a right is on, by its name alone, as it is named after k commands
+  abbrev pub target_name : ℕ → Target → List ℕ
+  target_name k (on.Field m f) = concat (model_text t m ∷ codes "." ∷ field_text t k m f ∷ [])
+  target_name k (on.Model m) = model_text t m
+
   abbrev pub kind_text : Kind → List ℕ
   kind_text (Static n) = static_text t n
   kind_text (Model m) = model_text t m

@@ -3,8 +3,8 @@
 //! | module | holds |
 //! |---|---|
 //! | `witness` | `Witness`, and `print_witness` |
-//! | `reports` | `print_undecided`, `print_too_large` |
-//! | `lines` | what witnesses and reports are made of |
+//! | `reports` | `print_undecided`, `print_too_large`, and what they name |
+//! | `lines` | what witnesses and reports are made of, `print_target` |
 //! | `names` | names, with the number of the command that adds what they name |
 //! | `added` | what the commands of a script add |
 //!
@@ -17,5 +17,6 @@ mod names;
 mod reports;
 mod witness;
 
-pub use reports::{print_too_large, print_undecided};
+pub use lines::print_target;
+pub use reports::{print_cycle, print_duty, print_too_large, print_undecided};
 pub use witness::{Witness, print_witness};

@@ -1,9 +1,10 @@
 //! What witnesses and reports are made of.
 
-ghost use Rattle.std.specs.Prelude.{◌≡◌, ◌++◌, OnOk};
+ghost use Rattle.std.specs.Prelude.{◌≡◌, ◌++◌, IfOk, OnOk};
 ghost use Rattle.type_schema.specs.SchemaViews.{script_of};
 ghost use Rattle.check_witness.specs.Printed.{access_text, principal_text, record_name};
 ghost use Rattle.check_witness.specs.Printed.{right_text, target_text};
+ghost use Rattle.check_report.specs.Reports.{target_name};
 
 use crate::names::{write_field, write_model, write_static};
 use data_meaning::Principal;
@@ -48,6 +49,44 @@ fn write_target(
             Ok(())
         }
     }
+}
+
+/// Writes what a right is on by its name alone.
+fn write_target_name(
+    out: &mut Printer,
+    alloc: Global,
+    t: &TScript,
+    k: u32,
+    target: Target,
+) -> Result<(), AllocError>
+    ensures { OnOk result (out.new ≡ out.old ++ target_name (script_of t.now) k target) }
+{
+    match target {
+        Target::Field(m, f) => {
+            write_model(out, alloc, t, m)?;
+            out.put(b".")?;
+            write_field(out, t, k, m, f)?;
+            Ok(())
+        }
+        Target::Model(m) => {
+            write_model(out, alloc, t, m)?;
+            Ok(())
+        }
+    }
+}
+
+/// What a right is on, as it is named after so many commands: `M.f` for a field, `M` for a model.
+pub fn print_target(
+    alloc: Global,
+    t: &TScript,
+    k: u32,
+    target: Target,
+) -> Result<Vec<u8>, AllocError>
+    ensures { IfOk result (λ text. text.items ≡ target_name (script_of t.now) k target) }
+{
+    let mut out = Printer::new(alloc);
+    write_target_name(&mut out, alloc, t, k, target)?;
+    Ok(out.into_bytes())
 }
 
 /// Writes a right on a target, at a command.

@@ -1,4 +1,4 @@
-//! The reports on an obligation that is not cleared and has no witness.
+//! The reports on an obligation that is not cleared and has no witness, and what they name.
 
 ghost use Rattle.std.specs.Prelude.{◌≡◌, ◌++◌, IfOk, OnOk, codes};
 ghost use Rattle.std.specs.List.{flat_map};
@@ -91,6 +91,24 @@ fn write_cycle(
     write_steps(out, alloc, t, models)?;
     write_model(out, alloc, t, *first)?;
     Ok(())
+}
+
+/// An obligation as the reports name it: its command, target, right and kind of principals.
+pub fn print_duty(alloc: Global, duty: Duty, t: &TScript) -> Result<Vec<u8>, AllocError>
+    ensures { IfOk result (λ text. text.items ≡ duty_text (script_of t.now) duty) }
+{
+    let mut out = Printer::new(alloc);
+    write_duty(&mut out, alloc, t, duty)?;
+    Ok(out.into_bytes())
+}
+
+/// A cycle of models as the reports write it: `A -> B -> A` for A and B.
+pub fn print_cycle(alloc: Global, cycle: &[ModelNo], t: &TScript) -> Result<Vec<u8>, AllocError>
+    ensures { IfOk result (λ text. text.items ≡ cycle_text (script_of t.now) cycle.now) }
+{
+    let mut out = Printer::new(alloc);
+    write_cycle(&mut out, alloc, t, cycle)?;
+    Ok(out.into_bytes())
 }
 
 /// The report on an obligation that is not decided: its formula is not stratified, and this is a

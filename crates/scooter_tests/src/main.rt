@@ -12,11 +12,12 @@ use std::io;
 use store_keeper::SureKeeper;
 
 /// The words of each command that README.md shows.
-const COMMANDS: [&[&str]; 19] = [
+const COMMANDS: [&[&str]; 20] = [
     &["check", "notes.spec", "robots.scm"],
     &["check", "groups.spec", "minutes.scm"],
     &["check", "groups.spec", "minutes-mended.scm"],
     &["check", "groups.spec", "open-house.scm"],
+    &["impact", "groups.spec", "open-house.scm"],
     &["check", "groups.spec", "digest.scm"],
     &["check", "clinic.spec", "slip.scm"],
     &["check", "groups.spec", "mistyped.scm"],

@@ -41,7 +41,7 @@ const FILES: [File<'static>; 8] = [
 ];
 
 const USAGE: &[u8] =
-    b"usage: init SPEC [DATA], check [SPEC] SCRIPT, apply SCRIPT, show, serve, gen N, prove SPEC SCRIPT, recheck SPEC SCRIPT CERT\n";
+    b"usage: init SPEC [DATA], check [SPEC] SCRIPT, apply SCRIPT, show, serve, gen N, prove SPEC SCRIPT, recheck SPEC SCRIPT CERT, impact SPEC SCRIPT\n";
 
 /// What the first words do over the files, where the calls of these numbers fail.
 struct Row {
