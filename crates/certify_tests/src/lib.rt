@@ -3,6 +3,12 @@
 #![tactic(auto)]
 
 #[cfg(test)]
+mod crowded;
+#[cfg(test)]
+mod judge;
+#[cfg(test)]
+mod many;
+#[cfg(test)]
 mod problems;
 #[cfg(test)]
 mod tests;

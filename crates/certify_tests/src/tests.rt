@@ -20,7 +20,7 @@ fn text_of(alloc: Global, lines: &[&str], places: &[usize]) -> Result<Vec<u8>, A
 }
 
 /// The numbers below `n`, without one of them.
-fn without(alloc: Global, n: usize, left_out: usize) -> Result<Vec<usize>, AllocError> {
+pub(crate) fn without(alloc: Global, n: usize, left_out: usize) -> Result<Vec<usize>, AllocError> {
     let mut places = Vec::new(alloc);
     for place in 0..n {
         if place != left_out {
@@ -31,7 +31,7 @@ fn without(alloc: Global, n: usize, left_out: usize) -> Result<Vec<usize>, Alloc
 }
 
 /// The numbers below `n`, one of them twice.
-fn doubled(alloc: Global, n: usize, twice: usize) -> Result<Vec<usize>, AllocError> {
+pub(crate) fn doubled(alloc: Global, n: usize, twice: usize) -> Result<Vec<usize>, AllocError> {
     let mut places = Vec::new(alloc);
     for place in 0..n {
         places.push(place)?;
@@ -43,7 +43,7 @@ fn doubled(alloc: Global, n: usize, twice: usize) -> Result<Vec<usize>, AllocErr
 }
 
 /// The numbers below `n`, one of them behind the next.
-fn exchanged(alloc: Global, n: usize, late: usize) -> Result<Vec<usize>, AllocError> {
+pub(crate) fn exchanged(alloc: Global, n: usize, late: usize) -> Result<Vec<usize>, AllocError> {
     let mut places = Vec::new(alloc);
     for place in 0..n {
         if place == late {
@@ -58,7 +58,7 @@ fn exchanged(alloc: Global, n: usize, late: usize) -> Result<Vec<usize>, AllocEr
 }
 
 /// The text's part from its start on, whose first line is number 1.
-fn answer<C: Clauses>(
+pub(crate) fn answer<C: Clauses>(
     rt: &impl Abort,
     alloc: Global,
     duty: u32,
