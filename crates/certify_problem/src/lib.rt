@@ -1,6 +1,7 @@
 //! The clauses of a formula, of which certificates are.
 //!
 //! - `tables`: all clauses on facts, of a table and on the order of numbers.
+//! - `equalities`: the equalities of which clauses and instances speak.
 //! - `listed`: clauses and atoms in memory.
 //! - `problems`: [`clauses_over`], the clauses of a formula over ground terms.
 //! - `grounded`: [`Grounded`], what a formula is grounded to.
@@ -8,6 +9,7 @@
 //! - `laws`: structures give lawful assignments.
 #![tactic(auto)]
 
+mod equalities;
 mod formulas;
 mod grounded;
 mod laws;

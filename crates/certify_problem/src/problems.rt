@@ -16,6 +16,7 @@ ghost use Rattle.certify_problem.specs.Making.{AreMadeOf, IsMadeOf};
 ghost use Rattle.certify_clauses.specs.InMemory.{problem_in};
 ghost use Rattle.certify_problem.specs.Problems.{IsProblemOf};
 
+use crate::equalities::equalities_of;
 use crate::listed::{all_clauses, listed, pad};
 use crate::tables::{add_clauses, table_clauses};
 use certify_atoms::{Reader, atoms_of, orders_of, see_texts, texts_of};
@@ -45,28 +46,6 @@ fn spoken_of(
     let variables = variables_of(alloc, arena, id)?;
     let made = instantiate(alloc, arena, id, signature, terms)?;
     vocabulary_of(alloc, arena, signature, variables.as_slice(), made, closed)
-}
-
-/// The facts of which clauses on facts and instances speak.
-fn facts_of(
-    alloc: Global,
-    arena: &Arena,
-    spoken: &Spoken,
-    tables: &[Vec<FactLiteral>],
-) -> Result<Vec<FactNode>, AllocError>
-    requires fields { AreFieldsOf spoken.now.made.terms spoken.now.made.inputs
-        spoken.now.fields.items }
-    requires relate { RelateTerms spoken.now.made.inputs }
-    requires below { HaveInputsBelow (length spoken.now.made.inputs) spoken.now.made.gates }
-    requires there { spoken.now.made.root < length spoken.now.made.gates }
-{
-    let GroundClauses {
-        facts,
-        clauses: _,
-        gates: _,
-        end: _,
-    } = ground_clauses(alloc, arena, spoken, tables)?;
-    Ok(facts)
 }
 
 /// The clauses of a certificate, by those on variables.
@@ -115,6 +94,7 @@ fn made_with(
     let mut all = tables;
     add_clauses(orders, &mut all)?;
     let ground = ground_clauses(alloc, reader.arena, spoken, all.as_slice())?;
+    drop(all);
     listed_by(alloc, reader, &ground)
 }
 
@@ -136,7 +116,7 @@ fn made_for(
         IsProblemOf signature.now f terms (problem_in c)) }
 {
     let tables = table_clauses(alloc, arena, signature, spoken)?;
-    let facts = facts_of(alloc, arena, spoken, tables.as_slice())?;
+    let facts = equalities_of(alloc, tables.as_slice(), spoken.made.inputs.as_slice())?;
     let texts = texts_of(alloc, arena, facts.as_slice())?;
     let own = texts.as_slice();
     see_texts(own);
