@@ -4,7 +4,8 @@ no specification, no script, no database or no request. It goes over the tokens 
 `cause_of(text, form)` is None, or the end of the report as `bad byte at 13`; `place_of_request(line)` is the A of `bad line A`.
 """
 
-SIGNS = ("::", "->", "==", "!=", "<=", ">=", "&&", "||", *"()[]{},:.-+<>!|@")
+PAIRS = {sign.encode(): sign for sign in ("::", "->", "==", "!=", "<=", ">=", "&&", "||")}
+SIGNS = {sign.encode(): sign for sign in "()[]{},:.-+<>!|@"}
 LOWER = set("static principal model create delete read write public none some if then else match with in has true false map flat_map self".split())
 UPPER = set(
     "Bool Int Text Id Set Option Find CreateModel DeleteModel AddField RemoveField UpdateFieldPolicy WeakenFieldPolicy UpdatePolicy"
@@ -96,7 +97,7 @@ def tokens_of(text):
             out.append(("text", text[i:end], i))
             i = end
         else:
-            sign = next((s for s in SIGNS if text.startswith(s.encode(), i)), None)
+            sign = PAIRS.get(text[i : i + 2]) or SIGNS.get(text[i : i + 1])
             if sign is None:
                 raise Refused("bad byte", i)
             out.append((sign, sign, i))

@@ -158,12 +158,12 @@ def inputs(cases):
         cases.same(f"{what} as the input", folder.run("serve", stdin=end), (10, ""))
         os.close(end)
     cases.same("an empty input", folder.run("serve"), (0, ""))
-    first, last = LINES.encode(), b"close a\n"
+    first, last, comment = LINES.encode(), b"\nclose a\n", b"#" * 65_535 + b"\n"
     for what, pieces, wanted in (
         ("lines, and then no line end", filling(first, b"x", b"", MOST_INPUT + 5), (14, REPLIES)),
-        ("empty lines, as many bytes as may be and one less", filling(first, b"\n", last, MOST_INPUT - 1), (0, REPLIES + "ok\n")),
-        ("empty lines, just as many bytes as are too many", filling(first, b"\n", last, MOST_INPUT), (14, REPLIES + "ok\n")),
-        ("empty lines without an end", filling(first, b"\n", b"", 2 * MOST_INPUT), (14, REPLIES)),
+        ("comments, as many bytes as may be", filling(first, comment, last, MOST_INPUT - 1), (0, REPLIES + "ok\n")),
+        ("comments, one byte more", filling(first, comment, last, MOST_INPUT), (14, REPLIES + "ok\n")),
+        ("comments without an end", filling(first, comment, b"", 2 * MOST_INPUT), (14, REPLIES)),
         ("one line of all that may come", filling(b"", b"y", b"", MOST_INPUT - 1), (0, "bad line 65536\n")),
         ("a line in pieces, and the writer stops", (bytes((b,)) for b in b"open a as User @1"), (0, "ok version 1\n")),
     ):
