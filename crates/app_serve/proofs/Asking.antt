@@ -1,7 +1,6 @@
 -- A run of `serve`, from what the store holds on.
-use Rattle.std.proofs.Common.{◌≡◌, ◌≢◌, ℕ, ◌≤◌, List, [], ◌∷◌, ◌++◌, length, Option, None, Some, refl, ap, sym, ◌∙◌, subst, inl, inr, arith}
-use Rattle.std.specs.Prelude.{◌⊎◌, IfSome, Result, Ok, Err}
-use Rattle.app_flow.specs.Faults.{Rose}
+use Rattle.std.proofs.Common.{◌≡◌, ◌≢◌, ℕ, ◌≤◌, List, [], ◌∷◌, Option, None, Some, refl, ap, sym, ◌∙◌, subst, inl, inr, arith}
+use Rattle.std.specs.Prelude.{◌⊎◌, IfSome, Ok, Err}
 use Rattle.app_flow.specs.Files.{Files}
 use Rattle.app_flow.specs.Outside.{IsWritten}
 use Rattle.app_flow.proofs.OutsideLemmas.{read-none}
@@ -85,7 +84,7 @@ module _ {F S K W : Type 0} (files : F → Option Files) (fetched : F → Option
         cut = λ is. absurd cc;
         end = NoMemory refl;
         more = [];
-        none_more = inl refl;
+        few_more = inl refl;
         read = read-none files fetched unread shelf ⊥ (λ h. h);
         fed = (omega arith);
         written = (omega arith);
@@ -110,7 +109,7 @@ module _ {F S K W : Type 0} (files : F → Option Files) (fetched : F → Option
       cut = v.cut;
       end = end-longer _ _ _ _ _ _ _ _ end (rose-later (unkept first) (unkept store) (unkept store_after) before after) v.end;
       more = v.more;
-      none_more = v.none_more;
+      few_more = v.few_more;
       read = v.read;
       fed = v.fed;
       written = v.written;

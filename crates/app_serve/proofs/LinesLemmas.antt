@@ -1,10 +1,9 @@
 -- The lines of bytes.
-use Rattle.std.proofs.Common.{◌≡◌, ◌≢◌, ℕ, ◌==◌, Bool, true, false, cond, List, [], ◌∷◌, ◌++◌, refl, ap, sym, ◌∙◌, subst, append_assoc, append-nil, arith, inl, inr}
-use Rattle.std.specs.Prelude.{Some}
+use Rattle.std.proofs.Common.{◌≡◌, ◌≢◌, ℕ, ◌==◌, Bool, false, cond, List, [], ◌∷◌, ◌++◌, refl, ap, sym, ◌∙◌, append_assoc, append-nil, arith}
 use Rattle.std.proofs.lemmas.Bool.Decides.{nat_tests}
 use Rattle.std.proofs.lemmas.List.Elements.{All-head, All-tail}
 use Rattle.door_lines.specs.Lines.{IsInLine}
-use Rattle.app_serve.specs.Lines.{AreLines, NoLine, Ended, Last, LinesAreFirst, lines_of, with_first}
+use Rattle.app_serve.specs.Lines.{NoLine, Ended, Last, LinesAreFirst, lines_of, with_first}
 
 no_newline : (b : ℕ) → b ≢ 10 → (b == 10) ≡ false
 no_newline b ne = grind (arith, nat_tests)

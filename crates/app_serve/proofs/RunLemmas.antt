@@ -1,5 +1,5 @@
 -- Runs of the door, one line after another.
-use Rattle.std.proofs.Common.{◌≡◌, ℕ, List, [], ◌∷◌, ◌++◌, Option, sym, subst, append-nil, append_assoc}
+use Rattle.std.proofs.Common.{ℕ, List, [], ◌∷◌, ◌++◌, Option, sym, subst, append-nil, append_assoc}
 use Rattle.app_flow.specs.Files.{Files}
 use Rattle.app_store.specs.Calls.{Call}
 use Rattle.door_meaning.specs.Replies.{reply_text}

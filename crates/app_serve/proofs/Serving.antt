@@ -1,6 +1,6 @@
 -- Turns, one after another, up to the end of a run.
-use Rattle.std.proofs.Common.{◌≡◌, ◌≢◌, ℕ, suc, ◌+◌, ◌<◌, ◌≤◌, ◌-◌, Bool, true, false, List, [], ◌∷◌, ◌++◌, length, map, take, Option, None, Some, refl, ap, sym, ◌∙◌, subst, inl, inr, append-nil, append_assoc, length-append, arith}
-use Rattle.std.specs.Prelude.{◌⊎◌, IfSome, Result, Ok, Err}
+use Rattle.std.proofs.Common.{◌≡◌, ℕ, suc, ◌+◌, ◌<◌, ◌≤◌, ◌-◌, List, [], ◌∷◌, ◌++◌, length, map, take, Option, None, Some, refl, ap, sym, ◌∙◌, subst, inl, inr, append-nil, append_assoc, length-append, arith}
+use Rattle.std.specs.Prelude.{IfSome}
 use Rattle.std.specs.Io.KnownBytes.{Consumes, IsAtEnd}
 use Rattle.std.specs.List.{flat_map}
 use Rattle.std.proofs.lemmas.Bool.{cases_lt}
@@ -8,35 +8,19 @@ use Rattle.std.proofs.lemmas.Grind.{flat_map-append}
 use Rattle.std.proofs.lemmas.List.{map-append}
 use Rattle.app_flow.specs.Faults.{Rose}
 use Rattle.app_flow.specs.Files.{Files}
-use Rattle.app_flow.specs.Outside.{IsRead}
 use Rattle.app_flow.specs.Told.{Appends, AppendsFront}
-use Rattle.app_flow.proofs.OutsideLemmas.{read-more}
 use Rattle.app_flow.proofs.ToldLemmas.{Appends-then}
-use Rattle.app_files.specs.declared.status.Status.{Status}
-use Rattle.app_files.specs.declared.status.Status.TheVariants as status
-use Rattle.app_files.specs.Ends.{IsSilent}
 use Rattle.app_store.specs.Calls.{Call, fetched_by}
-use Rattle.app_store.specs.Told.{IsKept}
-use Rattle.app_store.proofs.Ran.{kept-more}
 use Rattle.door_lines.specs.Lines.{HasEnded, IsFirst, IsInLine, IsRest, LineBufState}
 use Rattle.door_lines.proofs.RestLemmas.{consumes_then}
 use Rattle.door_meaning.specs.Replies.{reply_text}
 use Rattle.door_meaning.specs.Sessions.{Outcome}
 use Rattle.door_meaning.specs.State.{State}
-use Rattle.door_meaning.specs.Step.{DoorRun, DoorStep, Line, most_line_bytes}
-use Rattle.store_keeper.specs.declared.keeper.KeepCall.{KeepCall}
+use Rattle.door_meaning.specs.Step.{DoorRun, DoorStep, Line}
 use Rattle.store_keeper.specs.Content.{Content, replaced}
-use Rattle.store_keeper.specs.Stored.{IsStored, Stored}
-use Rattle.app_serve.specs.declared.serve_err.ServeErr.{ServeErr}
-use Rattle.app_serve.specs.declared.serve_err.ServeErr.TheVariants.{ReadFault, WriteFault, StoreFault, OutOfMemory, TooLong}
-use Rattle.app_serve.specs.declared.service.Turn.{Turn}
-use Rattle.app_serve.specs.declared.service.Turn.TheVariants.{Answered}
-use Rattle.app_serve.specs.declared.service.Turn.TheVariants as turn
+use Rattle.store_keeper.specs.Stored.{Stored}
 use Rattle.app_serve.specs.Lines.{AreLines, Ended, IsFrontOf, Last, lines_of, read_as}
-use Rattle.app_serve.specs.Replied.{Cut, IsReplied, Put, Unanswered}
-use Rattle.app_serve.specs.Run.{IsServed}
-use Rattle.app_serve.specs.Served.{AreAnswered, AtEnd, IsEnd, NoMemory, Spent, Unfed, Unread, Unstored, Unwritten, door_over, most_input_bytes}
-use Rattle.app_serve.specs.Turned.{Comes, IsUnderWay, NoMore, Read, Starved, Turned, status_at}
+use Rattle.app_serve.specs.Served.{AreAnswered, door_over}
 use Rattle.app_serve.proofs.LinesLemmas.{lines_are_first}
 use Rattle.app_serve.proofs.RunLemmas.{run-more}
 

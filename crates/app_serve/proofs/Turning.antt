@@ -1,5 +1,5 @@
 -- From the turns so far and one more to the turns then, or to the end of the run.
-use Rattle.std.proofs.Common.{◌≡◌, ◌≢◌, ℕ, ◌+◌, ◌<◌, ◌≤◌, ◌-◌, List, [], ◌∷◌, ◌++◌, length, Option, refl, ap, sym, ◌∙◌, subst, inl, inr, append-nil, append_assoc, length-append, arith}
+use Rattle.std.proofs.Common.{◌≡◌, ◌≢◌, ℕ, ◌+◌, ◌<◌, ◌-◌, List, [], ◌∷◌, ◌++◌, length, Option, refl, ap, sym, ◌∙◌, subst, inl, inr, append-nil, append_assoc, length-append, arith}
 use Rattle.std.specs.Prelude.{◌⊎◌, IfSome, None, Some, Result, Ok, Err}
 use Rattle.std.specs.Io.KnownBytes.{Consumes, IsAtEnd}
 use Rattle.std.specs.List.{flat_map}
@@ -13,7 +13,6 @@ use Rattle.app_files.specs.declared.status.Status.{Status}
 use Rattle.app_files.specs.declared.status.Status.TheVariants as status
 use Rattle.app_files.specs.Ends.{IsSilent}
 use Rattle.app_store.specs.Calls.{Call, fetched_by}
-use Rattle.app_store.specs.Told.{IsKept}
 use Rattle.app_store.specs.Headline.{IsHeld}
 use Rattle.app_store.proofs.Ran.{kept-more, kept-none}
 use Rattle.door_lines.specs.Lines.{HasEnded, IsFirst, IsInLine, IsRest, LineBufState, held}
@@ -22,7 +21,7 @@ use Rattle.door_meaning.specs.Replies.{reply_text}
 use Rattle.door_meaning.specs.Sessions.{Outcome}
 use Rattle.door_meaning.specs.State.{State}
 use Rattle.door_meaning.specs.declared.session.Session.{Session}
-use Rattle.door_meaning.specs.Step.{DoorRun, DoorStep, Stands, most_line_bytes}
+use Rattle.door_meaning.specs.Step.{Asked, DoorRun, DoorStep, ItsFile, Line, LineMayFetch, NoFile, Stands, Unasked, most_line_bytes}
 use Rattle.door_serve.proofs.Migrating.{held-stays}
 use Rattle.store_keeper.specs.declared.keeper.KeepCall.{KeepCall}
 use Rattle.store_keeper.specs.Content.{Content, replaced}
@@ -33,11 +32,11 @@ use Rattle.app_serve.specs.declared.service.Turn.{Turn}
 use Rattle.app_serve.specs.declared.service.Turn.TheVariants.{Answered, Ended}
 use Rattle.app_serve.specs.Ends.{status_of}
 use Rattle.app_serve.specs.Lines.{NoLine, read_as}
-use Rattle.app_serve.specs.Replied.{Cut, IsReplied, Put, Unanswered}
+use Rattle.app_serve.specs.Replied.{Cut, Put, Unanswered}
 use Rattle.app_serve.specs.Run.{IsServed}
 use Rattle.app_serve.specs.Served.{AreAnswered, AtEnd, IsEnd, NoMemory, Spent, Unfed, Unread, Unstored, Unwritten, door_over, most_input_bytes}
 use Rattle.app_serve.specs.Turned.{Comes, IsUnderWay, NoMore, Read, Starved, Turned}
-use Rattle.app_serve.proofs.Serving.{GoesOn, answered-more, answered-same, fetched-more, first-of, front-then, goes-on, nil-front, replaced-twice, rose-later, whole-of}
+use Rattle.app_serve.proofs.Serving.{GoesOn, answered-more, answered-same, fetched-more, first-of, front-then, goes-on, replaced-twice, rose-later, whole-of}
 
 -- how many bytes may still be taken, and how many belong to no line
 abbrev pub left-over : LineBufState → ℕ
@@ -152,9 +151,9 @@ module _ {F S K W : Type 0} (files : F → Option Files) (fetched : F → Option
   next-of u t is_stored (Read line first in_line (Put outcome step same stored is put)) =
       next-line u t is_stored line in_line (goes-then u (Ok Answered) t line first in_line) outcome step same stored put
   next-of u t is_stored (Read line first in_line (Cut outcome step same stored is rose front)) = absurd cc
-  next-of u t is_stored (Read line first in_line (Unanswered same told_same (inl (is, rose)))) = absurd cc
-  next-of u t is_stored (Read line first in_line (Unanswered same told_same (inr (inl (is, rose))))) = absurd cc
-  next-of u t is_stored (Read line first in_line (Unanswered same told_same (inr (inr is)))) = absurd cc
+  next-of u t is_stored (Read line first in_line (Unanswered may same told_same (inl (is, rose)))) = absurd cc
+  next-of u t is_stored (Read line first in_line (Unanswered may same told_same (inr (inl (is, rose))))) = absurd cc
+  next-of u t is_stored (Read line first in_line (Unanswered may same told_same (inr (inr is)))) = absurd cc
 
   pub under-way-next : SoFar → OneTurn (Ok Answered) → IsStored st_after.stored → IsUnderWay files fetched unread left unfed content kept unkept told unwritten shelf after input input_after store store_after out out_after s buf_after st_after
   under-way-next u t is_stored = next-of u t is_stored (t.comes u.rest u.is_rest)
@@ -185,9 +184,9 @@ module _ {F S K W : Type 0} (files : F → Option Files) (fetched : F → Option
   Over status = IsServed files fetched unread left unfed content kept unkept told unwritten shelf after input input_after store store_after out out_after status s
 
   stops-here : (u : SoFar) (result : Result Turn ServeErr) (t : OneTurn result) (end : Status) → end ≢ status.WriteFault → content store_after ≡ content store_now → told out_after ≡ told out_now
-      → (end ≡ status.Done → ((u.rest ++ t.came) ≡ []) × IsAtEnd (left input_after)) → (flat_map fetched_by t.calls ≡ []) ⊎ IsSilent end
+      → (end ≡ status.Done → ((u.rest ++ t.came) ≡ []) × IsAtEnd (left input_after)) → (flat_map fetched_by t.calls ≡ []) ⊎ (IsSilent end × ((name : List ℕ) × (flat_map fetched_by t.calls ≡ name ∷ [])))
       → IsEndNow (length (u.bytes ++ (u.rest ++ t.came))) (u.rest ++ t.came) end → Over end
-  stops-here u result t end not_cut same told_same done silent is_end =
+  stops-here u result t end not_cut same told_same done few is_end =
       let answered = answered-same (files shelf) s (left input) (left input_now) (left input_after) u.bytes u.lines u.rest t.came u.calls u.text st u.answered t.consumed in
       record {
         bytes = u.bytes;
@@ -204,7 +203,7 @@ module _ {F S K W : Type 0} (files : F → Option Files) (fetched : F → Option
         cut = λ is. absurd (not_cut is);
         end = is_end;
         more = flat_map fetched_by t.calls;
-        none_more = silent;
+        few_more = few;
         read = read-all u result t;
         fed = (omega (arith, u.fed, t.fed));
         written = (omega (arith, u.written, t.written));
@@ -232,7 +231,7 @@ module _ {F S K W : Type 0} (files : F → Option Files) (fetched : F → Option
         cut = λ is. front-then (told out) (told out_now) (told out_after) u.text (reply_text outcome.reply) u.put front;
         end = Unwritten refl (rose-later (unwritten out) (unwritten out_now) (unwritten out_after) u.written t.written rose);
         more = [];
-        none_more = inl refl;
+        few_more = inl refl;
         read = subst (λ (names : List (List ℕ)). IsRead files fetched unread shelf after names ⊥) (fetched-more u.calls t.calls ∙ sym (append-nil (flat_map fetched_by (u.calls ++ t.calls)))) (read-all u result t);
         fed = (omega (arith, u.fed, t.fed));
         written = (omega (arith, u.written, t.written));
@@ -240,6 +239,12 @@ module _ {F S K W : Type 0} (files : F → Option Files) (fetched : F → Option
 
   names-none : (calls : List Call) → calls ≡ [] → flat_map fetched_by calls ≡ []
   names-none calls none = ap (flat_map fetched_by) none
+
+  -- the file of the line without a reply
+  one-more : (line : Line) (calls : List Call) (end : Status) → LineMayFetch st line calls → IsSilent end → (flat_map fetched_by calls ≡ []) ⊎ (IsSilent end × ((name : List ℕ) × (flat_map fetched_by calls ≡ name ∷ [])))
+  one-more line calls end (Unasked none) silent = inl (names-none calls none)
+  one-more line calls end (Asked bytes r is of (NoFile none)) silent = inl (names-none calls none)
+  one-more line calls end (Asked bytes r is of (ItsFile name at e rises one)) silent = inr (silent, (name, ap (flat_map fetched_by) one))
 
   pub ended-of : (u : SoFar) (t : OneTurn (Ok Ended)) → Comes files fetched unread left unfed content kept unkept told unwritten now after input_now input_after store_now store_after out_now out_after buf_after st st_after t.calls (u.rest ++ t.came) (Ok Ended) → Over status.Done
   ended-of u t (NoMore is ended none silent same told_same) =
@@ -249,9 +254,9 @@ module _ {F S K W : Type 0} (files : F → Option Files) (fetched : F → Option
   ended-of u t (Starved in_line (inr (is, spent)) silent same told_same) = absurd cc
   ended-of u t (Read line first in_line (Put outcome step same stored is put)) = absurd cc
   ended-of u t (Read line first in_line (Cut outcome step same stored is rose front)) = absurd cc
-  ended-of u t (Read line first in_line (Unanswered same told_same (inl (is, rose)))) = absurd cc
-  ended-of u t (Read line first in_line (Unanswered same told_same (inr (inl (is, rose))))) = absurd cc
-  ended-of u t (Read line first in_line (Unanswered same told_same (inr (inr is)))) = absurd cc
+  ended-of u t (Read line first in_line (Unanswered may same told_same (inl (is, rose)))) = absurd cc
+  ended-of u t (Read line first in_line (Unanswered may same told_same (inr (inl (is, rose))))) = absurd cc
+  ended-of u t (Read line first in_line (Unanswered may same told_same (inr (inr is)))) = absurd cc
 
   -- the input has ended
   pub served-whole : SoFar → OneTurn (Ok Ended) → Over status.Done
@@ -276,17 +281,17 @@ module _ {F S K W : Type 0} (files : F → Option Files) (fetched : F → Option
   failed-of e u t (Read line first in_line (Put outcome step same stored is put)) = absurd cc
   failed-of e u t (Read line first in_line (Cut outcome step same stored is rose front)) =
       over-as err.WriteFault e (err-same err.WriteFault e (Err e) (Err err.WriteFault) refl refl is) (cut-here u (Err e) t line (goes-then u (Err e) t line first in_line) outcome step stored front rose)
-  failed-of e u t (Read line first in_line (Unanswered same told_same (inl (is, rose)))) =
+  failed-of e u t (Read line first in_line (Unanswered may same told_same (inl (is, rose)))) =
       over-as err.ReadFault e (err-same err.ReadFault e (Err e) (Err err.ReadFault) refl refl is)
-      (stops-here u (Err e) t status.ReadFault (λ w. cc) same told_same (λ w. absurd cc) (inr (inl refl))
+      (stops-here u (Err e) t status.ReadFault (λ w. cc) same told_same (λ w. absurd cc) (one-more (read_as line) t.calls status.ReadFault may (inl refl))
       (Unread refl (rose-later (unread shelf) (unread now) (unread after) u.read.never_falls t.read.never_falls rose)))
-  failed-of e u t (Read line first in_line (Unanswered same told_same (inr (inl (is, rose))))) =
+  failed-of e u t (Read line first in_line (Unanswered may same told_same (inr (inl (is, rose))))) =
       over-as err.StoreFault e (err-same err.StoreFault e (Err e) (Err err.StoreFault) refl refl is)
-      (stops-here u (Err e) t status.StoreFault (λ w. cc) same told_same (λ w. absurd cc) (inr (inr (inl refl)))
+      (stops-here u (Err e) t status.StoreFault (λ w. cc) same told_same (λ w. absurd cc) (one-more (read_as line) t.calls status.StoreFault may (inr (inl refl)))
       (Unstored refl (rose-later (unkept store) (unkept store_now) (unkept store_after) u.kept_so.never_falls t.kept_so.never_falls rose)))
-  failed-of e u t (Read line first in_line (Unanswered same told_same (inr (inr is)))) =
+  failed-of e u t (Read line first in_line (Unanswered may same told_same (inr (inr is)))) =
       over-as err.OutOfMemory e (err-same err.OutOfMemory e (Err e) (Err err.OutOfMemory) refl refl is)
-      (stops-here u (Err e) t status.OutOfMemory (λ w. cc) same told_same (λ w. absurd cc) (inr (inr (inr refl))) (NoMemory refl))
+      (stops-here u (Err e) t status.OutOfMemory (λ w. cc) same told_same (λ w. absurd cc) (one-more (read_as line) t.calls status.OutOfMemory may (inr (inr refl))) (NoMemory refl))
 
   -- a fault, a limit or want of memory ended it
   pub served-failed : (e : ServeErr) → SoFar → OneTurn (Err e) → Over (status_of e)

@@ -47,9 +47,9 @@ module _ {F S K W : Type 0} (files : F → Option Files) (fetched : F → Option
     pub put : status ≢ WriteFault → Appends (told out) (told out_after) text
     pub cut : status ≡ WriteFault → AppendsFront (told out) (told out_after) text
     pub end : IsEnd (Rose (unread shelf) (unread shelf_after)) (Rose (unfed input) (unfed input_after)) (Rose (unwritten out) (unwritten out_after)) (Rose (unkept store) (unkept store_after)) (IsAtEnd (left input_after)) (length (bytes ++ rest)) rest status
-    -- the names that the lines fetched, and then those of a line that a fault or want of memory left without a reply
+    -- the names that the lines fetched, and then perhaps the one of a line that a fault or want of memory left without a reply
     pub more : List (List ℕ)
-    pub none_more : (more ≡ []) ⊎ IsSilent status
+    pub few_more : (more ≡ []) ⊎ (IsSilent status × ((name : List ℕ) × (more ≡ name ∷ [])))
     pub read : IsRead files fetched unread shelf shelf_after (flat_map fetched_by calls ++ more) ⊥
     pub fed : unfed input ≤ unfed input_after
     pub written : unwritten out ≤ unwritten out_after

@@ -12,7 +12,7 @@ ghost use Rattle.app_store.specs.Calls.{Call, fetched_by};
 ghost use Rattle.app_store.specs.Headline.{IsHeld};
 ghost use Rattle.app_store.specs.Told.{IsKept};
 ghost use Rattle.door_lines.specs.Lines.{IsRest};
-ghost use Rattle.door_meaning.specs.Step.{DoorStep, most_line_bytes};
+ghost use Rattle.door_meaning.specs.Step.{DoorStep, LineMayFetch, most_line_bytes};
 ghost use Rattle.door_serve.specs.Doing.{Does};
 ghost use Rattle.door_serve.specs.DoorState.{state_of};
 ghost use Rattle.store_keeper.specs.Stored.{IsStored, stored_of};
@@ -54,6 +54,7 @@ fn reply_to<F: Shelf, K: Keeper>(
     requires short { IfSome (option_copied line) (λ line. length line ≤ most_line_bytes) }
     requires held { IsHeld (K.told store.old) (state_of door.old).stored }
     ensures { Does F.told F.calls F.faults K.told K.calls K.faults
+        (LineMayFetch (state_of door.old) (line_seen (option_copied line.entry)))
         (DoorStep (F.told shelf.old) (state_of door.old) (line_seen (option_copied line.entry)))
         (state_of door.old) shelf.old shelf.new store.old store.new result (state_of door.new) }
 {

@@ -1,8 +1,7 @@
 -- The conditions of `find`.
-use Rattle.std.specs.Prelude.{◌≡◌, ℕ, Bool, true, false, not, ◌&&◌, List, [], ◌∷◌, map, Option, None, Some, Result, Ok, Err, if◌then◌else◌}
+use Rattle.std.specs.Prelude.{ℕ, Bool, true, false, not, ◌&&◌, List, [], ◌∷◌, map, Option, None, Result, Ok}
 use Rattle.std.specs.List.{filter, list_all}
-use Rattle.std.specs.Option.{option_map, option_map_or}
-use Rattle.text_tree.specs.declared.exprs.CmpOp.{CmpOp}
+use Rattle.std.specs.Option.{option_map_or}
 use Rattle.text_tree.specs.declared.exprs.CmpOp.TheVariants.{Eq, Ne, Lt, Le, Gt, Ge}
 use Rattle.text_tree.specs.declared.exprs.FilterOp.{FilterOp}
 use Rattle.text_tree.specs.declared.exprs.FilterOp.TheVariants.{Cmp, Has}

@@ -1,5 +1,5 @@
 -- `migrate`: what `apply` of the file would do to what the door holds.
-use Rattle.std.specs.Prelude.{◌≡◌, ◌≢◌, ℕ, List, map, Option, None, Some, is_some, Ok, Err, if◌then◌else◌}
+use Rattle.std.specs.Prelude.{◌≡◌, ◌≢◌, ℕ, List, map, Option, None, Some, Ok, Err, if◌then◌else◌}
 use Rattle.std.specs.Option.{option_map_or}
 use Rattle.app_flow.specs.Files.{Files}
 use Rattle.app_files.specs.declared.answer.Checked.{Checked}
@@ -13,26 +13,24 @@ use Rattle.app_store.specs.Report.{applied_text, store_refusal_text}
 use Rattle.app_store.specs.Calls.{Call}
 use Rattle.app_store.specs.Stages.{StorePart, Makes}
 use Rattle.app_store.specs.Store.{MayRise}
-use Rattle.app_store.specs.Told.{Told}
 use Rattle.check_scripts.specs.Outcomes.{accepted}
 use Rattle.check_scripts.specs.Views.{outcome_data}
-use Rattle.type_schema.specs.Schema.{Schema, model_of, static_of}
+use Rattle.type_schema.specs.Schema.{Schema}
 use Rattle.type_schema.specs.Script.{count, schema_at}
 use Rattle.type_schema.specs.SchemaViews.{script_of}
 use Rattle.type_anew.specs.Policies.{renumbered_principal}
 use Rattle.data_meaning.specs.declared.principals.Principal.{Principal}
-use Rattle.data_meaning.specs.declared.principals.Principal.TheVariants.{Static, Rec}
 use Rattle.store_apply.specs.Applied.{IsApplied}
 use Rattle.store_keeper.specs.Stored.{Stored}
-use Rattle.door_meaning.specs.Replies.{Reply, Script}
+use Rattle.door_meaning.specs.Names.{stands_in}
+use Rattle.door_meaning.specs.Replies.{Script}
 use Rattle.door_meaning.specs.Sessions.{Outcome}
 use Rattle.door_meaning.specs.declared.session.Session.{Session}
 use Rattle.door_meaning.specs.State.{State}
 
 -- the principal under the numbers of the schema numbered anew, or none where its static or model is gone
 abbrev pub moved_principal : Schema → Principal → Option Principal
-moved_principal s (Static n) = if is_some (static_of s n) then Some (renumbered_principal s (Static n)) else None
-moved_principal s (Rec m id) = if is_some (model_of s m) then Some (renumbered_principal s (Rec m id)) else None
+moved_principal s who = if stands_in s who then Some (renumbered_principal s who) else None
 
 -- a session keeps its version, so it is stale
 abbrev pub moved_session : Schema → Session → Session

@@ -1,10 +1,9 @@
 -- What names in requests name.
-use Rattle.std.specs.Prelude.{ℕ, Bool, true, false, List, [], ◌∷◌, Option, None, Some, is_none, Result, Ok, Err}
+use Rattle.std.specs.Prelude.{ℕ, Bool, true, List, Option, is_some, Result, Ok}
 use Rattle.std.specs.List.{find}
-use Rattle.std.specs.Option.{option_map}
 use Rattle.std.specs.Str.{bytes_eq}
 use Rattle.text_tree.specs.declared.named.Named.{Named}
-use Rattle.type_schema.specs.Schema.{StaticInfo, FieldInfo, ModelInfo, Schema, is_principal_model}
+use Rattle.type_schema.specs.Schema.{StaticInfo, FieldInfo, ModelInfo, Schema, is_principal_model, model_of, static_of}
 use Rattle.data_meaning.specs.declared.principals.Principal.{Principal}
 use Rattle.data_meaning.specs.declared.principals.Principal.TheVariants.{Static, Rec}
 use Rattle.data_judge.specs.Faults.{field_named, model_named}
@@ -33,3 +32,8 @@ principal_named s (who.Record model id) = goes (model_at s model) (λ (info : Mo
 abbrev pub is_marked : Schema → Principal → Bool
 is_marked s (Static n) = true
 is_marked s (Rec m id) = is_principal_model s m
+
+-- the static or the model of the principal is one of the schema
+abbrev pub stands_in : Schema → Principal → Bool
+stands_in s (Static n) = is_some (static_of s n)
+stands_in s (Rec m id) = is_some (model_of s m)

@@ -1,6 +1,6 @@
 -- What the door keeps.
-use Rattle.std.specs.Prelude.{ℕ, Bool, List, ◌∷◌, [], ◌++◌, Option}
-use Rattle.std.specs.List.{find, list_any}
+use Rattle.std.specs.Prelude.{ℕ, ◌<◌, ◌≤◌, Bool, List, ◌∷◌, [], ◌++◌, Option}
+use Rattle.std.specs.List.{AllByRecursion, find, list_any}
 use Rattle.std.specs.Str.{bytes_eq}
 use Rattle.data_records.specs.Changed.{change_first}
 use Rattle.data_records.specs.Removed.{without_first}
@@ -33,3 +33,11 @@ at_version version s = record s { version = version }
 
 abbrev pub renewed_session : List ℕ → State → State
 renewed_session name st = record st { sessions = change_first (is_named name) (at_version st.stored.version) st.sessions }
+
+-- No session is at a later version than the door.
+abbrev pub NoneAhead : State → Type 0
+NoneAhead st = AllByRecursion (λ (s : Session). s.version ≤ st.stored.version) st.sessions
+
+-- Each session is stale: it was opened or last renewed at an earlier version.
+abbrev pub AllStale : State → Type 0
+AllStale st = AllByRecursion (λ (s : Session). s.version < st.stored.version) st.sessions

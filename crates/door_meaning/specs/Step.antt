@@ -1,8 +1,8 @@
 -- The door as a machine: what a line is answered, and what the door keeps then.
-use Rattle.std.specs.Prelude.{◌≡◌, ℕ, List, [], ◌∷◌, ◌++◌, length, slice_get, Option, None, Some}
+use Rattle.std.specs.Prelude.{◌≡◌, ◌<◌, ℕ, List, [], ◌∷◌, ◌++◌, length, slice_get, Option, None, Some}
 use Rattle.std.specs.Option.{option_map_or}
 use Rattle.app_flow.specs.Files.{Files}
-use Rattle.app_store.specs.Calls.{Call}
+use Rattle.app_store.specs.Calls.{Call, Fetch}
 use Rattle.text_lexer.specs.declared.token.Token.{Token}
 use Rattle.text_lexer.specs.Lexes.{Lexes}
 use Rattle.text_parse.specs.declared.syntax_err.SyntaxErr.{SyntaxErr}
@@ -14,10 +14,11 @@ use Rattle.door_requests.specs.Refused.{IsRefusedAs}
 use Rattle.door_requests.specs.Texts.{IsLineOf}
 use Rattle.door_meaning.specs.Migrates.{IsMigration}
 use Rattle.door_meaning.specs.Records.{create_stage, delete_stage, find_stage, read_stage, write_stage}
-use Rattle.door_meaning.specs.Replies.{Reply, BadLine, Quiet, reply_text}
+use Rattle.door_meaning.specs.Replies.{BadLine, Quiet, reply_text}
 use Rattle.door_meaning.specs.Sessions.{Outcome, closed, opened, outcome_of, renewed}
 use Rattle.door_meaning.specs.State.{State}
 use Rattle.door_meaning.specs.declared.limits.TheConstants.{MOST_LINE_BYTES}
+use Rattle.store_keeper.specs.Stored.{last_version}
 
 abbrev pub most_line_bytes : ℕ
 most_line_bytes = MOST_LINE_BYTES
@@ -33,6 +34,12 @@ IsAnswered files st (request.Write session model id field value at) calls outcom
 IsAnswered files st (request.Create session model row at) calls outcome = (calls ≡ []) × (outcome ≡ outcome_of st (create_stage st session model row))
 IsAnswered files st (request.Delete session model id at) calls outcome = (calls ≡ []) × (outcome ≡ outcome_of st (delete_stage st session model id))
 IsAnswered files st (request.Migrate name at) calls outcome = IsMigration files st name calls outcome
+
+-- The calls of the shelf that a request may make, whatever comes of them: none; or the fetch of the file that a `migrate` names, where the
+-- version can rise.
+pub data MayFetch (st : State) (r : Request) (calls : List Call) : Type 0 where
+  NoFile : calls ≡ [] → MayFetch st r calls
+  ItsFile : (name : List ℕ) (at : ℕ) → r ≡ request.Migrate name at → st.stored.version < last_version → calls ≡ Fetch name ∷ [] → MayFetch st r calls
 
 -- the offset of the token with so many others before it, or the length of the line where there are no more
 abbrev pub token_offset : List Token → ℕ → ℕ → ℕ
@@ -54,6 +61,11 @@ IsBadAt line err.OutOfMemory place = ⊥
 pub data Line : Type 0 where
   Whole : List ℕ → Line
   Cut : Line
+
+-- The calls of the shelf that a line may make, whatever comes of them: those of its request.
+pub data LineMayFetch (st : State) (line : Line) (calls : List Call) : Type 0 where
+  Unasked : calls ≡ [] → LineMayFetch st line calls
+  Asked : (bytes : List ℕ) (r : Request) → line ≡ Whole bytes → IsLineOf bytes (Some r) → MayFetch st r calls → LineMayFetch st line calls
 
 -- A step of the door at a line, with the calls of the shelf that it makes.
 pub data DoorStep (files : Option Files) (st : State) : Line → List Call → Outcome → Type 0 where

@@ -1,14 +1,14 @@
 -- What is stored where a record is set, made or dropped.
-use Rattle.std.proofs.Common.{◌≡◌, ℕ, Bool, true, false, List, [], ◌∷◌, ◌++◌, Option, None, Some, refl, ap, sym, ◌∙◌, subst, cond, inl, inr, length, suc}
+use Rattle.std.proofs.Common.{◌≡◌, ℕ, Bool, true, false, List, [], ◌∷◌, ◌++◌, Option, None, Some, refl, ap, sym, ◌∙◌, subst, cond, inl, inr, length}
 use Rattle.std.specs.Prelude.{◌==◌, is_some}
 use Rattle.std.specs.List.{find}
 use Rattle.std.specs.Option.{option_map_or}
 use Rattle.std.proofs.lemmas.Bool.{eq-eqb}
-use Rattle.type_schema.specs.Schema.{FieldInfo, ModelInfo, Schema, model_of}
+use Rattle.type_schema.specs.Schema.{FieldInfo, ModelInfo, model_of}
 use Rattle.data_meaning.specs.Values.{Value}
-use Rattle.data_meaning.specs.Database.{Record, Table, Database, HasTable, has_record, records_of, table_of}
+use Rattle.data_meaning.specs.Database.{Record, Table, Database, HasTable, has_record, records_of}
 use Rattle.data_records.specs.Changed.{IsFitting, with_field}
-use Rattle.data_records.specs.Inserted.{IsAdmitted, change_table, next_of, with_record, with_row}
+use Rattle.data_records.specs.Inserted.{IsAdmitted, next_of, with_record, with_row}
 use Rattle.data_records.specs.Keeping.{DatabasesStay}
 use Rattle.data_records.specs.Rows.{slots_from}
 use Rattle.data_records.proofs.Stays.{records-changed}
@@ -18,7 +18,9 @@ use Rattle.store_keeper.specs.Stored.{Stored, IsStored}
 use Rattle.store_keeper.proofs.Differences.{all-found}
 use Rattle.store_keeper.proofs.Putting.{not-next, shaped-length}
 use Rattle.store_keeper.proofs.Storing.{put-is, put-stored}
-use Rattle.door_serve.specs.Changing.{IsKnown, Making, Setting, made_record, record_at, set_record}
+use Rattle.door_meaning.specs.Records.{Making, Setting}
+use Rattle.door_judge.specs.Parts.{IsKnown, set_record}
+use Rattle.door_serve.specs.Changing.{made_record, record_at}
 
 -- what is stored, with this database
 abbrev pub over : Stored → Database → Stored

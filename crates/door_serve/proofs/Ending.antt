@@ -1,5 +1,5 @@
 -- How requests that change records end.
-use Rattle.std.proofs.Common.{◌≡◌, ℕ, ◌≤◌, true, List, [], ◌∷◌, Option, None, Some, refl, ap, sym, ◌∙◌, subst, arith}
+use Rattle.std.proofs.Common.{◌≡◌, ℕ, List, [], ◌∷◌, Option, None, Some, refl, ap, sym, ◌∙◌, subst, arith, inl, inr}
 use Rattle.std.specs.Prelude.{IfOk, IfSome, IsErrAnd, IsSomeAnd, OnErr, OnOk, Result, Ok, Err}
 use Rattle.std.specs.Option.{option_map}
 use Rattle.app_flow.proofs.ToldLemmas.{Appends-none}
@@ -11,15 +11,15 @@ use Rattle.store_keeper.specs.Content.{Content, changed, replaced}
 use Rattle.store_keeper.specs.Stored.{Stored, IsStored}
 use Rattle.door_meaning.specs.declared.reply.Reply as code
 use Rattle.door_meaning.specs.Records.{with_base}
-use Rattle.door_meaning.specs.Replies.{Reply, reply_data, tells_change}
+use Rattle.door_meaning.specs.Replies.{Reply, reply_data}
 use Rattle.door_meaning.specs.Sessions.{Outcome, outcome_of}
 use Rattle.door_meaning.specs.State.{State}
 use Rattle.door_serve.specs.Changing.{Changes, Keeps, ended}
-use Rattle.door_serve.specs.Doing.{IsAsked, Never, Once}
+use Rattle.door_serve.specs.Doing.{IsAsked, Never}
 use Rattle.door_serve.specs.declared.door_err.DoorErr.{DoorErr}
-use Rattle.door_serve.specs.declared.door_err.DoorErr.TheVariants.{ReadFault, StoreFault, OutOfMemory}
-use Rattle.door_serve.specs.declared.halt.Halt.{Halt}
-use Rattle.door_serve.specs.declared.halt.Halt.TheVariants as halt
+use Rattle.door_serve.specs.declared.door_err.DoorErr.TheVariants.{StoreFault, OutOfMemory}
+use Rattle.door_judge.specs.declared.halt.Halt.{Halt}
+use Rattle.door_judge.specs.declared.halt.Halt.TheVariants as halt
 
 -- ---- what a store tells
 
@@ -77,8 +77,7 @@ module _ {K : Type 0} (content : K → Content) (kept : K → Option (List KeepC
     pub starved : (outcome : Outcome) (after : State) → after ≡ st → Changes content kept unkept outcome st store store (Err OutOfMemory) after
     starved outcome after same = record {
       made = [];
-      ends = (same, λ e. cc);
-      asked = Never refl;
+      ends = (same, (λ e. cc), inl refl);
       kept_so = kept-none store (Err OutOfMemory ≡ Err StoreFault) (λ e. cc);
       told = told-same after same;
       stored = stored-same after same;
@@ -96,8 +95,7 @@ module _ {K : Type 0} (content : K → Content) (kept : K → Option (List KeepC
     refused stage answer after is same =
         subst (λ (r : Result Outcome Reply). Changes content kept unkept (outcome_of st r) st store store (Ok answer) after) (sym is) (record {
           made = [];
-          ends = (refl, same);
-          asked = Never refl;
+          ends = (refl, same, Never refl refl);
           kept_so = kept-none store (Ok answer ≡ Err StoreFault) (λ e. cc);
           told = told-same after same;
           stored = stored-same after same;
@@ -117,13 +115,12 @@ module _ {K : Type 0} (content : K → Content) (kept : K → Option (List KeepC
       -- the store holds it, and so does the door
       pub carried-out : {A : Type 0} (x : A) (stage : Result Outcome Reply) (outcome : Outcome) (answer : code.Reply) (after : State)
           → Keeps content kept unkept change call store store_after (Ok x) → stage ≡ Ok outcome → reply_data answer ≡ outcome.reply → after ≡ outcome.state
-          → tells_change outcome.reply ≡ true → change st.stored ≡ outcome.state.stored → IsStored outcome.state.stored
+          → IsAsked st outcome (call ∷ []) → change st.stored ≡ outcome.state.stored → IsStored outcome.state.stored
           → Changes content kept unkept (outcome_of st stage) st store store_after (Ok answer) after
-      carried-out x stage outcome answer after keeps is replied state tells new stored =
+      carried-out x stage outcome answer after keeps is replied state asked new stored =
           subst (λ (r : Result Outcome Reply). Changes content kept unkept (outcome_of st r) st store store_after (Ok answer) after) (sym is) (record {
             made = call ∷ [];
-            ends = (replied, state);
-            asked = Once call refl tells;
+            ends = (replied, state, asked);
             kept_so = record {
               called = keeps.kept_so.called;
               silent = keeps.kept_so.silent;
@@ -136,12 +133,11 @@ module _ {K : Type 0} (content : K → Content) (kept : K → Option (List KeepC
 
       -- the store did not take it
       pub failed : {A : Type 0} (e : DoorErr) (stage : Result Outcome Reply) (outcome : Outcome) (after : State) → Keeps {K = K} {A = A} content kept unkept change call store store_after (Err e)
-          → stage ≡ Ok outcome → tells_change outcome.reply ≡ true → after ≡ st → Changes content kept unkept (outcome_of st stage) st store store_after (Err e) after
-      failed {A} e stage outcome after keeps is tells same =
+          → stage ≡ Ok outcome → IsAsked st outcome (call ∷ []) → after ≡ st → Changes content kept unkept (outcome_of st stage) st store store_after (Err e) after
+      failed {A} e stage outcome after keeps is asked same =
           subst (λ (r : Result Outcome Reply). Changes content kept unkept (outcome_of st r) st store store_after (Err e) after) (sym is) (record {
             made = call ∷ [];
-            ends = (same, λ read. keeps.not_read (ap (λ (x : DoorErr). let r : Result A DoorErr = Err x in r) read));
-            asked = Once call refl tells;
+            ends = (same, (λ read. keeps.not_read (ap (λ (x : DoorErr). let r : Result A DoorErr = Err x in r) read)), inr asked);
             kept_so = record {
               called = keeps.kept_so.called;
               silent = keeps.kept_so.silent;
@@ -155,11 +151,11 @@ module _ {K : Type 0} (content : K → Content) (kept : K → Option (List KeepC
       -- either of both, over another database
       pub ends-based : (reply : code.Reply) (new base_after : Database) (end : Result code.Reply DoorErr) (stage : Result Outcome Reply)
           → Keeps content kept unkept change call store store_after end → stage ≡ Ok (with_base (reply_data reply) new st) → IfOk end (λ answer. answer ≡ reply)
-          → OnOk end (base_after ≡ new) → OnErr end (base_after ≡ st.stored.base) → tells_change (reply_data reply) ≡ true
+          → OnOk end (base_after ≡ new) → OnErr end (base_after ≡ st.stored.base) → IsAsked st (with_base (reply_data reply) new st) (call ∷ [])
           → change st.stored ≡ (based st new).stored → IsStored (based st new).stored
           → Changes content kept unkept (outcome_of st stage) st store store_after end (based st base_after)
-      ends-based reply new base_after (Ok answer) stage keeps is replied done same tells changed_so stored =
-          carried-out answer stage (with_base (reply_data reply) new st) answer (based st base_after) keeps is (ap reply_data replied) (ap (λ (x : Database). based st x) done) tells
+      ends-based reply new base_after (Ok answer) stage keeps is replied done same asked changed_so stored =
+          carried-out answer stage (with_base (reply_data reply) new st) answer (based st base_after) keeps is (ap reply_data replied) (ap (λ (x : Database). based st x) done) asked
           changed_so stored
-      ends-based reply new base_after (Err e) stage keeps is replied done same tells changed_so stored =
-          failed e stage (with_base (reply_data reply) new st) (based st base_after) keeps is tells (based-same st base_after same)
+      ends-based reply new base_after (Err e) stage keeps is replied done same asked changed_so stored =
+          failed e stage (with_base (reply_data reply) new st) (based st base_after) keeps is asked (based-same st base_after same)

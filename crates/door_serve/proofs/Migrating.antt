@@ -1,5 +1,5 @@
 -- From the stages of `migrate` to what was done.
-use Rattle.std.proofs.Common.{◌≡◌, ℕ, ◌<◌, List, [], ◌∷◌, Option, None, Some, refl, ap, sym, ◌∙◌, subst, append-nil, inl, inr, map}
+use Rattle.std.proofs.Common.{◌≡◌, ℕ, ◌<◌, List, [], ◌∷◌, Option, None, Some, refl, ap, sym, ◌∙◌, subst, append-nil, inl, inr, map, ◌++◌, ◌+◌, arith}
 use Rattle.std.specs.Prelude.{◌⊎◌, true, IfOk, Result, Ok, Err}
 use Rattle.std.specs.List.{flat_map}
 use Rattle.app_files.specs.declared.answer.Checked.{Checked}
@@ -28,10 +28,11 @@ use Rattle.door_meaning.specs.Migrates as migrates
 use Rattle.door_meaning.specs.Replies.{Reply, Script, reply_data, tells_change}
 use Rattle.door_meaning.specs.Sessions.{Outcome}
 use Rattle.door_meaning.specs.State.{State}
+use Rattle.door_meaning.specs.Step.{ItsFile, MayFetch, NoFile}
+use Rattle.door_requests.specs.declared.requests.Request.TheVariants as request
 use Rattle.door_meaning.specs.declared.session.Session.{Session}
 use Rattle.store_apply.specs.Applied.{IsApplied}
 use Rattle.store_keeper.specs.declared.keeper.KeepCall.{KeepCall}
-use Rattle.store_keeper.specs.declared.keeper.KeepCall.TheVariants.{Replace}
 use Rattle.store_keeper.specs.declared.keeper.KeepErr.{KeepErr}
 use Rattle.store_keeper.specs.declared.keeper.KeepErr.TheVariants as keep
 use Rattle.store_keeper.specs.Content.{Content, replaced}
@@ -40,9 +41,9 @@ use Rattle.type_schema.specs.Schema.{Schema}
 use Rattle.type_schema.specs.SchemaViews.{script_of}
 use Rattle.door_serve.specs.declared.door_err.DoorErr.{DoorErr}
 use Rattle.door_serve.specs.declared.door_err.DoorErr.TheVariants.{OutOfMemory, ReadFault, StoreFault}
-use Rattle.door_serve.specs.Doing.{Does, Ends, Never, Once}
+use Rattle.door_serve.specs.Doing.{Does, Ends, Never, Replaces}
 use Rattle.door_serve.specs.Kept.{err_of}
-use Rattle.door_serve.specs.Moving.{AsksScript, IsCarried, Kept, Lost, Said}
+use Rattle.door_serve.specs.Moving.{AsksScript, IsCarried, Kept, Lost, MigrationMayFetch, Said}
 use Rattle.door_serve.specs.Moving as moving
 
 -- what a store holds that tells it
@@ -64,6 +65,19 @@ module _ (files : Option Files) (st : State) (name : List ℕ) (calls : List Cal
   migrates-err reason text (Went held before after first second split) is_text =
       migrates.Stopped reason text (Went held before after first (Stopped reason second refl) split) is_text refl
 
+-- what the first stages fetch
+pub asks-fetch : (files : Option Files) (st : State) (name : List ℕ) (calls : List Call) (end : Result Checked StoreStop) → AsksScript files st.stored name calls end → MigrationMayFetch st name calls
+asks-fetch files st name calls end (Stopped s p e) = inl p.0
+asks-fetch files st name calls end (Went held before after first second split) =
+    inr (first.1.1, split ∙ ap (λ (c : List Call). c ++ after) first.0 ∙ second.0)
+
+pub migration-fetch : (st : State) (name : List ℕ) (at : ℕ) (calls : List Call) → MigrationMayFetch st name calls → MayFetch st (request.Migrate name at) calls
+migration-fetch st name at calls may =
+    elim may [
+      | inl none ↦ NoFile none
+      | inr some ↦ ItsFile name at refl some.0 some.1
+    ]
+
 -- each outcome of a script is its report
 script-tells : (st : State) (checked : Checked) (outcome : Outcome) → IsMigrated st checked outcome → tells_change outcome.reply ≡ true
 script-tells st checked outcome (Applies n after accepts applied e) = ap (λ (o : Outcome). tells_change o.reply) e
@@ -78,14 +92,14 @@ module _ (files : Option Files) (st : State) (name : List ℕ) (calls : List Cal
       → Ends (IsMigration files st name) st calls made result after
   carried-ends made result after (Said answer comes none is same) =
       ends-as made result (Ok answer) after is
-      (record { reply = reply_data answer; state = st }, migrates-ok files st name calls checked (record { reply = reply_data answer; state = st }) asks comes, refl, same, Never none)
-  carried-ends made result after (Kept answer comes one is) =
+      (record { reply = reply_data answer; state = st }, migrates-ok files st name calls checked (record { reply = reply_data answer; state = st }) asks comes, refl, same, Never none refl)
+  carried-ends made result after (Kept answer comes rises one is) =
       let outcome : Outcome = record { reply = reply_data answer; state = after } in
       ends-as made result (Ok answer) after is
-      (outcome, migrates-ok files st name calls checked outcome asks comes, refl, refl, Once Replace one (script-tells st checked outcome comes))
-  carried-ends made result after (Lost outcome comes one failed same) =
+      (outcome, migrates-ok files st name calls checked outcome asks comes, refl, refl, Replaces one rises (script-tells st checked outcome comes))
+  carried-ends made result after (Lost outcome comes rises one failed same) =
       let migration = migrates-ok files st name calls checked outcome asks comes in
-      let asked = Once Replace one (script-tells st checked outcome comes) in
+      let asked = Replaces one rises (script-tells st checked outcome comes) in
       elim failed [
         | inl is ↦ ends-as made result (Err StoreFault) after is (same, inr (outcome, migration, asked))
         | inr is ↦ ends-as made result (Err OutOfMemory) after is (same, inr (outcome, migration, asked))
@@ -140,6 +154,10 @@ migrated-as st checked n after reply now last accepts applied text stored same s
     ∙ ap (λ (z : Stored). record { reply = Script (applied_text n after.version); state = record { stored = z; sessions = now.sessions } }) stored
     ∙ ap (λ (l : List Session). record { reply = Script (applied_text n after.version); state = record { stored = after; sessions = l } }) moved)
 
+-- the next version is a later one
+pub later : (s after : Stored) → after.version ≡ s.version + 1 → s.version < after.version
+later s after next = omega (arith, next)
+
 -- why the store did not take it
 pub keep-failed : (result : Result code.Reply DoorErr) (e : KeepErr) → result ≡ Err (err_of e) → (result ≡ Err StoreFault) ⊎ (result ≡ Err OutOfMemory)
 keep-failed result keep.Failed is = inl is
@@ -155,10 +173,11 @@ module _ {F K : Type 0} (files : F → Option Files) (fetched : F → Option (Li
   pub done-checked : (store store_after : K) (result : Result code.Reply DoorErr) (after : State) (checked : Checked) → AsksSo files fetched unread st.stored name shelf shelf_after (Ok checked)
       → (made : List KeepCall) × IsCarried (IsMigrated st checked) st made result after × IsKept kept unkept store store_after made (result ≡ Err StoreFault)
       → IsStored after.stored → content store_after ≡ replaced after.stored (content store) → (result ≡ Err ReadFault → ⊥)
-      → Does files fetched unread content kept unkept (IsMigration (files shelf) st name) st shelf shelf_after store store_after result after
+      → Does files fetched unread content kept unkept (MigrationMayFetch st name) (IsMigration (files shelf) st name) st shelf shelf_after store store_after result after
   done-checked store store_after result after checked asks carried is_stored told not_read = record {
     calls = asks.0;
     made = carried.0;
+    fetches = asks-fetch (files shelf) st name asks.0 (Ok checked) asks.1;
     ends = carried-ends (files shelf) st name asks.0 checked asks.1 carried.0 result after carried.1;
     read = read-as files fetched unread shelf shelf_after (flat_map fetched_by asks.0) _ (result ≡ Err ReadFault) (λ e. absurd (not_read e)) asks.2;
     kept_so = carried.2;
@@ -169,15 +188,16 @@ module _ {F K : Type 0} (files : F → Option Files) (fetched : F → Option (Li
   stopped-ends : (calls : List Call) (result : Result code.Reply DoorErr) (reason : StoreStop) → AsksScript (files shelf) st.stored name calls (Err reason)
       → IfOk result (λ (reply : code.Reply). (text : List ℕ) × IsStopText reason text × (reply_data reply ≡ Script text)) → Ends (IsMigration (files shelf) st name) st calls [] result st
   stopped-ends calls (Ok answer) reason asks (text, is_text, is) =
-      (record { reply = Script text; state = st }, migrates-err (files shelf) st name calls reason text asks is_text, is, refl, Never refl)
+      (record { reply = Script text; state = st }, migrates-err (files shelf) st name calls reason text asks is_text, is, refl, Never refl refl)
   stopped-ends calls (Err e) reason asks replied = (refl, inl refl)
 
   pub done-stopped : (store : K) (result : Result code.Reply DoorErr) (reason : StoreStop) → AsksSo files fetched unread st.stored name shelf shelf_after (Err reason) → IsHeld (content store) st.stored
       → IfOk result (λ (reply : code.Reply). (text : List ℕ) × IsStopText reason text × (reply_data reply ≡ Script text)) → (result ≡ Err ReadFault → reason ≡ why.Files stop.ReadFault)
-      → (result ≡ Err StoreFault → ⊥) → Does files fetched unread content kept unkept (IsMigration (files shelf) st name) st shelf shelf_after store store result st
+      → (result ≡ Err StoreFault → ⊥) → Does files fetched unread content kept unkept (MigrationMayFetch st name) (IsMigration (files shelf) st name) st shelf shelf_after store store result st
   done-stopped store result reason asks held replied read not_stored = record {
     calls = asks.0;
     made = [];
+    fetches = asks-fetch (files shelf) st name asks.0 (Err reason) asks.1;
     ends = stopped-ends asks.0 result reason asks.1 replied;
     read = read-as files fetched unread shelf shelf_after (flat_map fetched_by asks.0) _ (result ≡ Err ReadFault) (λ e. ap (λ (z : StoreStop). Err z) (read e)) asks.2;
     kept_so = kept-none kept unkept store (result ≡ Err StoreFault) not_stored;

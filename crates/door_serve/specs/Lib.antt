@@ -1,11 +1,8 @@
 pub mod Changing
-pub mod Coming
 pub mod Doing
 pub mod DoorState
 pub mod Kept
 pub mod Laws
 pub mod Moving
 pub mod Public
-pub mod Settings
 pub mod Stepping
-pub mod Tests

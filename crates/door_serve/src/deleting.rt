@@ -1,102 +1,27 @@
 //! `delete`
 
-ghost use Rattle.std.specs.Prelude.{◌≡◌, None, IsSome, true, IfOk, IfSome, IsSomeAnd, OnErr, OnOk};
-ghost use Rattle.std.specs.Option.{option_map};
+ghost use Rattle.std.specs.Prelude.{◌≡◌, IfOk, IfSome, IsSomeAnd, OnErr, OnOk};
 ghost use Rattle.app_store.specs.Headline.{IsHeld};
-ghost use Rattle.data_meaning.specs.Database.{has_record};
-ghost use Rattle.data_records.specs.Removed.{first_reference, without_record};
-ghost use Rattle.door_meaning.specs.Orders.{stops};
-ghost use Rattle.door_meaning.specs.Records.{delete_stage, referenced};
-ghost use Rattle.door_meaning.specs.Replies.{reply_data};
+ghost use Rattle.data_records.specs.Removed.{without_record};
+ghost use Rattle.door_meaning.specs.Records.{delete_stage};
 ghost use Rattle.door_meaning.specs.Sessions.{outcome_of};
-ghost use Rattle.door_serve.specs.Changing.{Changes, IsRemovable, Keeps, ready_removal};
-ghost use Rattle.door_serve.specs.Coming.{Comes};
+ghost use Rattle.door_serve.specs.Changing.{Changes, Keeps};
 ghost use Rattle.door_serve.specs.DoorState.{state_of};
 ghost use Rattle.store_keeper.specs.Changes.{MayDrop, with_drop};
 ghost use Rattle.store_keeper.specs.declared.keeper.KeepCall.TheVariants.{DropRow};
-ghost use Rattle.type_schema.specs.Proper.{IsProper};
-ghost use Rattle.type_schema.specs.Schema.{field_of};
-ghost use Rattle.type_schema.specs.SchemaViews.{model_info_of, schema_of};
+ghost use Rattle.type_schema.specs.SchemaViews.{model_info_of};
 
-use crate::creating::has_right;
 use crate::door::Door;
-use crate::door_err::DoorErr;
-use crate::halt::Halt;
+use crate::door_err::{DoorErr, ended};
 use crate::keeping::drop_kept;
-use crate::looks::{is_there, model_of_name};
-use crate::names::model_of_number;
-use crate::values::field_numbered;
-use data_meaning::Principal;
-use data_records::{DataErr, Database, databases_stay};
+use data_records::{Database, databases_stay};
 use data_tree::WrittenId;
+use door_judge::removal_ready;
 use door_meaning::Reply;
-use std::alloc::{AllocError, Global};
+use std::alloc::Global;
 use store_keeper::Keeper;
 use text_tree::Named;
-use type_schema::{FieldNo, ModelInfo, ModelNo, Right, Schema};
-
-/// A field of another record names the record.
-fn named_by(alloc: Global, s: &Schema, m: ModelNo, id: u64, f: FieldNo) -> Result<Reply, AllocError>
-    requires { IsSome (field_of (schema_of s.now) m f) }
-    ensures { IfOk result (λ reply. reply_data reply
-        ≡ referenced (schema_of s.now) (record { model = m; id = id; field = f })) }
-{
-    let Some(info) = model_of_number(s, m) else {
-        unreachable!()
-    };
-    let Some(field) = field_numbered(info.fields.as_slice(), f) else {
-        unreachable!()
-    };
-    let model = info.name.copy(alloc)?;
-    let field = field.name.copy(alloc)?;
-    Ok(Reply::Referenced { model, id, field })
-}
-
-/// No other record is to name the record.
-fn is_free(alloc: Global, s: &Schema, d: &Database, m: ModelNo, id: u64) -> Result<(), Halt>
-    requires proper { IsProper (schema_of s.now) }
-    requires there { has_record d.now m id ≡ true }
-    ensures judged { Comes (stops (option_map (referenced (schema_of s.now))
-        (first_reference (schema_of s.now) d.now m id))) (λ x. x) result }
-    ensures free { OnOk result (first_reference (schema_of s.now) d.now m id ≡ None) }
-{
-    match d.judge_removal(s, m, id) {
-        Ok(()) => Ok(()),
-        Err(DataErr::Referenced { model, id, field }) => {
-            Err(Halt::Replied(named_by(alloc, s, model, id, field)?))
-        }
-        Err(
-            DataErr::NoRecord
-            | DataErr::WrongShape { .. }
-            | DataErr::Dangling { .. }
-            | DataErr::Full { .. }
-            | DataErr::IdsSpent
-            | DataErr::OutOfMemory,
-        ) => unreachable!(),
-    }
-}
-
-/// The model of the record that is to be dropped, if nothing refuses that.
-fn removal_ready<'s>(
-    alloc: Global,
-    s: &'s Schema,
-    d: &Database,
-    who: Option<Principal>,
-    model: &Named,
-    id: u64,
-) -> Result<&'s ModelInfo, Halt>
-    requires { IsProper (schema_of s.now) }
-    ensures ready { Comes (ready_removal (schema_of s.now) d.now who model.now id)
-        (λ info. model_info_of info.now) result }
-    ensures may { IfOk result (λ info. IsRemovable (schema_of s.now) d.now
-        (model_info_of info.now) id) }
-{
-    let info = model_of_name(s, model)?;
-    is_there(d, info, id)?;
-    has_right(alloc, d, &info.delete, id, who, Right::Delete)?;
-    is_free(alloc, s, d, info.number, id)?;
-    Ok(info)
-}
+use type_schema::ModelInfo;
 
 /// Drops the record from the store, and then from the database.
 fn drop_record<K: Keeper>(
@@ -137,13 +62,13 @@ impl Door {
         databases_stay();
         let who = match self.live(session.name.bytes()) {
             Ok(s) => s.who,
-            Err(halt) => return halt.end(),
+            Err(halt) => return ended(halt),
         };
         let id = id.number;
         let base = &mut self.stored.base;
         let info = match removal_ready(alloc, &self.stored.schema, base, who, model, id) {
             Ok(info) => info,
-            Err(halt) => return halt.end(),
+            Err(halt) => return ended(halt),
         };
         drop_record(alloc, base, info, id, store)
     }

@@ -1,8 +1,8 @@
 //! The door: what is stored, and the sessions.
 
-ghost use Rattle.std.specs.Prelude.{◌≡◌, ◌<◌, [], false, IfOk, OnErr, Some, length, slice_get};
+ghost use Rattle.std.specs.Prelude.{◌≡◌, ◌<◌, [], false, true, IfOk, OnErr, Some, is_some, length, slice_get};
 ghost use Rattle.data_meaning.specs.Database.{is_there};
-ghost use Rattle.door_meaning.specs.Names.{is_marked};
+ghost use Rattle.door_meaning.specs.Names.{is_marked, stands_in};
 ghost use Rattle.std.specs.Option.{option_map};
 ghost use Rattle.door_meaning.specs.Replies.{reply_data};
 ghost use Rattle.door_meaning.specs.Sessions.{added, closed, entered, has_principal, join_refusal};
@@ -11,19 +11,22 @@ ghost use Rattle.door_meaning.specs.State.{is_named};
 ghost use Rattle.std.specs.List.{list_any};
 ghost use Rattle.door_serve.specs.DoorState.{Gives, state_of};
 ghost use Rattle.door_meaning.specs.declared.session.Session.{Session};
+ghost use Rattle.type_schema.specs.Schema.{model_of, static_of};
 ghost use Rattle.type_schema.specs.SchemaViews.{schema_of};
 
-use crate::names::{is_marked_model, principal_named};
+use crate::moved::{model_place, static_place};
 use crate::sessions::Sessions;
 use data_meaning::Principal;
 use data_records::Database;
+use door_judge::principal_named;
 use door_meaning::limits::MOST_SESSIONS;
 use door_meaning::{Fullness, Reply, Session};
 use door_requests::Who;
 use std::alloc::{AllocError, Global};
 use store_keeper::Stored;
 use text_ast::Name;
-use type_schema::Schema;
+use type_schema::{ModelNo, Schema, StaticNo};
+use type_typing::is_principal;
 
 /// What is stored, and the sessions on it, in the order in which they were opened.
 #[derive(Drop)]
@@ -33,12 +36,13 @@ pub struct Door {
 }
 
 /// Whether the principal is a static, or of a model that is marked.
+#[tactic(auto, unfolding(type_typing::specs::Names::plain_of))]
 fn is_marked_in(s: &Schema, who: Principal) -> bool
     ensures { result ≡ is_marked (schema_of s.now) who }
 {
     match who {
         Principal::Static(_) => true,
-        Principal::Rec(m, _) => is_marked_model(s, m),
+        Principal::Rec(m, _) => is_principal(s, m),
     }
 }
 
@@ -50,6 +54,20 @@ fn is_there_in(d: &Database, who: Principal) -> bool
         Principal::Static(_) => true,
         Principal::Rec(m, id) => d.has(m, id),
     }
+}
+
+/// Whether the schema has the static.
+fn has_static(s: &Schema, n: StaticNo) -> bool
+    ensures { result ≡ is_some (static_of (schema_of s.now) n) }
+{
+    static_place(s.statics.as_slice(), n).is_some()
+}
+
+/// Whether the schema has the model.
+fn has_model(s: &Schema, m: ModelNo) -> bool
+    ensures { result ≡ is_some (model_of (schema_of s.now) m) }
+{
+    model_place(s.models.as_slice(), m).is_some()
 }
 
 impl Door {
@@ -134,13 +152,25 @@ impl Door {
         }
     }
 
-    /// Opens a session for a principal of the schema.
+    /// Whether the static or the model of the principal is one of the schema, so that it may enter.
+    pub fn knows(&self, who: Principal) -> bool
+        ensures { result ≡ stands_in (state_of self.now).stored.schema who }
+    {
+        match who {
+            Principal::Static(n) => has_static(&self.stored.schema, n),
+            Principal::Rec(m, _) => has_model(&self.stored.schema, m),
+        }
+    }
+
+    /// Opens a session for a principal of the schema. Its reply is that of `open` with the name of
+    /// the static, or of the model and the id.
     pub fn enter(
         &mut self,
         alloc: Global,
         session: &Name,
         who: Principal,
     ) -> Result<Reply, AllocError>
+        requires { stands_in (state_of self.old).stored.schema who ≡ true }
         ensures done { IfOk result
             (λ reply. Gives (entered (state_of self.old) session.now who) reply self.new) }
         ensures kept { OnErr result (state_of self.new ≡ state_of self.old) }

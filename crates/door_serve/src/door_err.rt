@@ -1,9 +1,12 @@
 //! Why a line has no reply.
 
 ghost use Rattle.std.specs.Prelude.{◌≡◌};
+ghost use Rattle.door_serve.specs.Changing.{ended};
 ghost use Rattle.door_serve.specs.Kept.{err_of};
 ghost use Rattle.door_serve.specs.declared.door_err.DoorErr.TheVariants.{OutOfMemory};
 
+use door_judge::Halt;
+use door_meaning::Reply;
 use std::alloc::AllocError;
 use store_keeper::KeepErr;
 use thiserror::Error;
@@ -38,5 +41,15 @@ impl From<KeepErr> for DoorErr {
             KeepErr::Failed => DoorErr::StoreFault,
             KeepErr::OutOfMemory => DoorErr::OutOfMemory,
         }
+    }
+}
+
+/// How a request ends that goes no further.
+pub(crate) fn ended(halt: Halt) -> Result<Reply, DoorErr>
+    ensures { result ≡ ended halt }
+{
+    match halt {
+        Halt::Replied(reply) => Ok(reply),
+        Halt::OutOfMemory => Err(DoorErr::OutOfMemory),
     }
 }

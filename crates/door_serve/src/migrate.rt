@@ -1,22 +1,19 @@
 //! `migrate`: a script is carried out on what the door holds.
 
-ghost use Rattle.std.specs.Prelude.{◌≡◌, ◌≢◌, ◌<◌, ◌==◌, ℕ, List, Err, IfOk, IfSome, None};
-ghost use Rattle.std.specs.Prelude.{length, map, position};
+ghost use Rattle.std.specs.Prelude.{◌≡◌, ◌≢◌, ◌<◌, ℕ, List, Err, IfOk, map};
 ghost use Rattle.std.specs.List.{flat_map};
-ghost use Rattle.std.specs.Option.{option_map_or};
 ghost use Rattle.app_files.specs.declared.stop.Stop.TheVariants as files;
 ghost use Rattle.app_flow.specs.Outside.{IsRead};
 ghost use Rattle.app_store.specs.Calls.{Call, fetched_by};
 ghost use Rattle.app_store.specs.Headline.{IsHeld};
 ghost use Rattle.app_store.specs.Told.{IsKept};
-ghost use Rattle.data_meaning.specs.declared.principals.Principal.TheVariants as principal;
 ghost use Rattle.door_meaning.specs.Migrates.{IsMigrated, IsMigration, IsStopText};
-ghost use Rattle.door_meaning.specs.Migrates.{moved_principal, moved_session};
+ghost use Rattle.door_meaning.specs.Migrates.{moved_session};
 ghost use Rattle.door_meaning.specs.Replies as plain;
 ghost use Rattle.door_meaning.specs.Replies.{reply_data};
 ghost use Rattle.door_serve.specs.Doing.{Does};
 ghost use Rattle.door_serve.specs.DoorState.{state_of};
-ghost use Rattle.door_serve.specs.Moving.{AsksScript, IsCarried};
+ghost use Rattle.door_serve.specs.Moving.{AsksScript, IsCarried, MigrationMayFetch};
 ghost use Rattle.store_apply.specs.Applied.{IsApplied};
 ghost use Rattle.store_apply.specs.Settling.{MaySettle};
 ghost use Rattle.store_keeper.specs.Content.{replaced};
@@ -28,12 +25,11 @@ ghost use Rattle.type_schema.specs.SchemaViews.{schema_of, script_of};
 
 use crate::door::Door;
 use crate::door_err::DoorErr;
-use crate::sessions::Sessions;
+use crate::moved::move_sessions;
 use app_files::{Checked, Stop, check_file, print_checked};
 use app_flow::Shelf;
 use app_store::{StoreAnswer, StoreRefusal, StoreStop, print_applied, store_report_of};
 use check_scripts::Outcome;
-use data_meaning::Principal;
 use door_meaning::Reply;
 use sqlite_items::Items;
 use std::alloc::{AllocError, Global};
@@ -41,85 +37,13 @@ use store_apply::{applied, last_schema, script_settles, scripts_start};
 use store_keeper::limits::LAST_VERSION;
 use store_keeper::{Keeper, Stored};
 use text_ast::Txt;
-use type_schema::{ModelInfo, ModelNo, Schema, StaticInfo, StaticNo, TScript};
+use type_schema::{Schema, TScript};
 
 /// The reply of a report.
 fn reported(report: Vec<u8>) -> Reply
     ensures { reply_data result ≡ plain.Script report.items }
 {
     Reply::Script(Items::from_vec(report))
-}
-
-/// The place of a static.
-fn static_place(statics: &[StaticInfo], n: StaticNo) -> Option<usize>
-    ensures first { result ≡ position (λ info. info.number == n) statics.now }
-    ensures within { IfSome result (λ at. at < length statics.now) }
-{
-    statics.iter().position(|info| info.number == n)
-}
-
-/// The place of a model.
-fn model_place(models: &[ModelInfo], m: ModelNo) -> Option<usize>
-    ensures first { result ≡ position (λ info. info.number == m) models.now }
-    ensures within { IfSome result (λ at. at < length models.now) }
-{
-    models.iter().position(|info| info.number == m)
-}
-
-/// The static under its number in the schema numbered anew, or none where it is gone.
-fn moved_static(s: &Schema, n: StaticNo) -> Option<Principal>
-    requires { IsWithinNumbers (schema_of s.now) }
-    ensures { result ≡ moved_principal (schema_of s.now) (principal.Static n) }
-{
-    match static_place(s.statics.as_slice(), n) {
-        Some(place) => Some(Principal::Static(place as u32)),
-        None => None,
-    }
-}
-
-/// The record under its model's number in the schema numbered anew, or none where the model is gone.
-fn moved_record(s: &Schema, m: ModelNo, id: u64) -> Option<Principal>
-    requires { IsWithinNumbers (schema_of s.now) }
-    ensures { result ≡ moved_principal (schema_of s.now) (principal.Rec m id) }
-{
-    match model_place(s.models.as_slice(), m) {
-        Some(place) => Some(Principal::Rec(place as u32, id)),
-        None => None,
-    }
-}
-
-/// The principal under the numbers of the schema numbered anew, or none where it is gone.
-fn moved_who(s: &Schema, who: Principal) -> Option<Principal>
-    requires { IsWithinNumbers (schema_of s.now) }
-    ensures { result ≡ moved_principal (schema_of s.now) who }
-{
-    match who {
-        Principal::Static(n) => moved_static(s, n),
-        Principal::Rec(m, id) => moved_record(s, m, id),
-    }
-}
-
-/// The principal of a session, which may have none.
-fn moved_of(s: &Schema, who: Option<Principal>) -> Option<Principal>
-    requires { IsWithinNumbers (schema_of s.now) }
-    ensures { result ≡ option_map_or (moved_principal (schema_of s.now)) who None }
-{
-    match who {
-        Some(who) => moved_who(s, who),
-        None => None,
-    }
-}
-
-/// Gives each session its principal's new number, or none.
-fn move_sessions(sessions: &mut Sessions, s: &Schema)
-    requires { IsWithinNumbers (schema_of s.now) }
-    ensures { sessions.new ≡ map (moved_session (schema_of s.now)) sessions.old }
-{
-    for at in 0..sessions.len() {
-        let who = sessions.as_slice()[at].who;
-        let moved = moved_of(s, who);
-        sessions.set_principal(at, moved);
-    }
 }
 
 /// The script in the file of that name over what is stored, which is checked.
@@ -241,6 +165,7 @@ impl Door {
     ) -> Result<Reply, DoorErr>
         requires { IsHeld (K.told store.old) (state_of self.old).stored }
         ensures { Does F.told F.calls F.faults K.told K.calls K.faults
+            (MigrationMayFetch (state_of self.old) name.now)
             (IsMigration (F.told shelf.old) (state_of self.old) name.now)
             (state_of self.old) shelf.old shelf.new store.old store.new result (state_of self.new) }
     {

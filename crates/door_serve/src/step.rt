@@ -2,17 +2,17 @@
 
 ghost use Rattle.std.specs.Prelude.{◌≡◌, ◌≤◌, length};
 ghost use Rattle.app_store.specs.Headline.{IsHeld};
-ghost use Rattle.door_meaning.specs.Step.{DoorStep, IsAnswered, Whole, most_line_bytes};
+ghost use Rattle.door_meaning.specs.Step.{DoorStep, IsAnswered, LineMayFetch, MayFetch, Whole};
+ghost use Rattle.door_meaning.specs.Step.{most_line_bytes};
 ghost use Rattle.door_serve.specs.Doing.{Does};
 ghost use Rattle.door_serve.specs.DoorState.{state_of};
 ghost use Rattle.door_serve.specs.Stepping.{looked};
 
 use crate::bad::bad_place;
 use crate::door::Door;
-use crate::door_err::DoorErr;
-use crate::halt::Halt;
-use crate::writing::Cell;
+use crate::door_err::{DoorErr, ended};
 use app_flow::Shelf;
+use door_judge::{Cell, Halt};
 use door_meaning::Reply;
 use door_requests::{Request, parse_request};
 use std::alloc::Global;
@@ -24,7 +24,7 @@ fn looked(end: Result<Reply, Halt>) -> Result<Reply, DoorErr>
 {
     match end {
         Ok(reply) => Ok(reply),
-        Err(halt) => halt.end(),
+        Err(halt) => ended(halt),
     }
 }
 
@@ -39,6 +39,7 @@ impl Door {
     ) -> Result<Reply, DoorErr>
         requires { IsHeld (K.told store.old) (state_of self.old).stored }
         ensures { Does F.told F.calls F.faults K.told K.calls K.faults
+            (MayFetch (state_of self.old) request.now)
             (IsAnswered (F.told shelf.old) (state_of self.old) request.now) (state_of self.old)
             shelf.old shelf.new store.old store.new result (state_of self.new) }
     {
@@ -47,7 +48,9 @@ impl Door {
             Request::Renew(session, _) => Ok(self.renew(&session.name)),
             Request::Close(session, _) => Ok(self.close(&session.name)),
             Request::Read(session, model, id, field, _) => {
-                looked(self.read(alloc, session, model, *id, field))
+                let id = *id;
+                let cell = Cell { model, id, field };
+                looked(self.read(alloc, session, &cell))
             }
             Request::Find(session, model, conditions, _) => {
                 looked(self.find(alloc, session, model, conditions.as_slice()))
@@ -80,6 +83,7 @@ impl Door {
         requires short { length line.now ≤ most_line_bytes }
         requires held { IsHeld (K.told store.old) (state_of self.old).stored }
         ensures { Does F.told F.calls F.faults K.told K.calls K.faults
+            (LineMayFetch (state_of self.old) (Whole line.now))
             (DoorStep (F.told shelf.old) (state_of self.old) (Whole line.now)) (state_of self.old)
             shelf.old shelf.new store.old store.new result (state_of self.new) }
     {

@@ -1,6 +1,5 @@
-use Rattle.std.proofs.Common.{rules, ◌≡◌, refl, ap}
-use Rattle.std.specs.Prelude.{Ok, Err}
-use Rattle.door_lines.specs.Lines.{IsNextLine}
+use Rattle.std.proofs.Common.{rules, ◌≡◌, ap}
+use Rattle.std.specs.Prelude.{Err}
 use Rattle.door_serve.specs.DoorState.{state_of}
 use Rattle.app_serve.specs.Ends.{of_flow}
 use Rattle.app_serve.proofs.Taking.{no-line, read-cut-line, read-line, short-line, starved}

@@ -1,6 +1,6 @@
 use Rattle.std.proofs.Common.{◌∙◌, None, Some, refl}
 use Rattle.door_meaning.specs.State.{is_named}
-use Rattle.door_serve.proofs.Places.{nowhere, placed, removed_at, somewhere}
+use Rattle.door_judge.proofs.Places.{nowhere, placed, removed_at, somewhere}
 use Rattle.door_serve.proofs.SessionLemmas.{close_done, close_none}
 use Rattle.door_serve.proofs.door.Door.close.Goals as goal
 

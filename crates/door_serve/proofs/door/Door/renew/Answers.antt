@@ -1,7 +1,7 @@
 use Rattle.std.proofs.Common.{◌∙◌, None, Some, refl, sym}
 use Rattle.data_records.proofs.Firsts.{none-from_position}
 use Rattle.door_meaning.specs.State.{at_version, is_named}
-use Rattle.door_serve.proofs.Places.{changed_at, found_there, placed}
+use Rattle.door_judge.proofs.Places.{changed_at, found_there, placed}
 use Rattle.door_serve.proofs.SessionLemmas.{renew_done, renew_gone, renew_none}
 use Rattle.door_serve.proofs.door.Door.renew.Goals as goal
 

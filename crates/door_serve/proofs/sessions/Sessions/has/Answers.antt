@@ -1,6 +1,6 @@
 use Rattle.std.proofs.Common.{◌∙◌}
 use Rattle.door_meaning.specs.State.{is_named}
-use Rattle.door_serve.proofs.Places.{any_placed}
+use Rattle.door_judge.proofs.Places.{any_placed}
 use Rattle.door_serve.proofs.sessions.Sessions.has.Goals as goal
 
 pub returns : goal.returns

@@ -2,7 +2,7 @@ use Rattle.std.proofs.Common.{◌∙◌, List, ap, get_or, sym}
 use Rattle.data_records.proofs.Firsts.{none-from_position}
 use Rattle.door_meaning.specs.State.{is_named}
 use Rattle.door_meaning.specs.declared.session.Session.{Session}
-use Rattle.door_serve.proofs.Places.{found_at}
+use Rattle.door_judge.proofs.Places.{found_at}
 use Rattle.door_serve.proofs.sessions.Sessions.named.Goals as goal
 
 pub returns-in-Some : goal.returns-in-Some

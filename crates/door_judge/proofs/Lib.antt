@@ -1,0 +1,10 @@
+pub mod Keyed
+pub mod Known
+pub mod PassedOn
+pub mod Passing
+pub mod Places
+pub mod References
+pub mod Refusals
+pub mod Rows
+pub mod Shown
+pub mod Stages

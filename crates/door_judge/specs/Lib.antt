@@ -1,0 +1,5 @@
+pub mod Coming
+pub mod Parts
+pub mod Public
+pub mod Tests
+pub mod Views

@@ -1,7 +1,0 @@
-use Rattle.std.proofs.Common.{◌≡◌, map, drop}
-use Rattle.door_serve.specs.Tests.{may_read_all, test_data}
-use Rattle.door_serve.proofs.find.may_read_all.Given as goal
-
--- whether all may be read is settled by those that are left
-abbrev pub invariant-loop-test : goal.invariant-loop-test
-invariant-loop-test l = may_read_all l.d l.who (map test_data (drop l.test-index l.tests)) l.id ≡ may_read_all l.d l.who (map test_data l.tests) l.id

@@ -1,9 +1,0 @@
-use Rattle.std.proofs.Common.{ap, ◌∙◌, ◌==◌}
-use Rattle.std.specs.Prelude.{option_map}
-use Rattle.type_schema.specs.Schema.{FieldInfo}
-use Rattle.type_schema.specs.SchemaViews.{field_info_of}
-use Rattle.data_judge.proofs.Found.{find-seen}
-use Rattle.door_serve.proofs.values.field_numbered.Goals as goal
-
-pub returns : goal.returns
-returns c = ap (option_map field_info_of) c.field_among.ensures ∙ find-seen field_info_of (λ (f : FieldInfo). f.number == c.args.f) c.args.fields.now
