@@ -1,0 +1,11 @@
+pub mod Among
+pub mod Cells
+pub mod Dropped
+pub mod Judged
+pub mod Left
+pub mod Listed
+pub mod Named
+pub mod Parts
+pub mod Shown
+pub mod Still
+pub mod Within
