@@ -1,5 +1,0 @@
-//! Tests of `impact`, through the program over objects in memory.
-#![tactic(auto)]
-
-#[cfg(test)]
-mod tests;

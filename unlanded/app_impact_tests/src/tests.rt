@@ -1,4 +1,0 @@
-//! Worked commands, each with what it answers.
-
-mod impacts;
-mod linked;
