@@ -1,0 +1,5 @@
+//! Tests of `impact`, through the program over objects in memory.
+#![tactic(auto)]
+
+#[cfg(test)]
+mod tests;

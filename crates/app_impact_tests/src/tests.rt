@@ -1,0 +1,4 @@
+//! Worked commands, each with what it answers.
+
+mod impacts;
+mod linked;
