@@ -26,7 +26,7 @@ U_DATA = """User @3 {
 TIGHT = "User::UpdateFieldPolicy(email, {read: u -> [u]})\n"
 LEAK = "User::UpdateFieldPolicy(email, {write: public})\n"
 U_FILES = {"u.spec": U_SPEC, "d.txt": U_DATA, "s.scm": TIGHT, "leak.scm": LEAK}
-USAGE = "usage: init SPEC [DATA], check [SPEC] SCRIPT, apply SCRIPT, show, serve, gen N, prove SPEC SCRIPT, recheck SPEC SCRIPT CERT\n"
+USAGE = "usage: init SPEC [DATA], check [SPEC] SCRIPT, apply SCRIPT, show, serve, gen N, prove SPEC SCRIPT, recheck SPEC SCRIPT CERT, impact SPEC SCRIPT\n"
 SHOWN = "version 1\n" + U_SPEC + U_DATA
 SHOWN_AFTER = SHOWN.replace("version 1", "version 2").replace("email: Text {read: public", "email: Text {read: u -> [u]")
 

@@ -45,7 +45,7 @@ def outputs(cases):
             return got
 
         folder = cases.folder()
-        for words in ((), ("check", "u.spec", "s.scm"), ("check", "u.spec", "leak.scm"), ("check", "u.spec", "nowhere"), ("gen", "2"), ("prove", "u.spec", "s.scm"), ("recheck", "u.spec", "s.scm", "s.scm"), ("show",)):  # fmt: skip
+        for words in ((), ("check", "u.spec", "s.scm"), ("check", "u.spec", "leak.scm"), ("check", "u.spec", "nowhere"), ("gen", "2"), ("prove", "u.spec", "s.scm"), ("recheck", "u.spec", "s.scm", "s.scm"), ("impact", "u.spec", "s.scm"), ("show",)):  # fmt: skip
             cases.same(f"{what}: {' '.join(words)}", run(folder, *words), (11, ""))
         cases.same(f"{what}: init", run(folder, "init", "u.spec", "d.txt"), (11, ""))
         cases.same(f"{what}: init stored what it was to", folder.shown(), (0, SHOWN))

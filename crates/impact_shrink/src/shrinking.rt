@@ -45,7 +45,7 @@ fn smallest(alloc: Global, t: &TScript, w: &Witness, base: Database) -> Result<D
     Ok(left.base)
 }
 
-/// The witness over a smallest part of its base: it is real, and it is not without any one of the
+/// The witness over a small part of its base: it is real, and it is not without any one of the
 /// records that are left, or the base is no database without it. What is left is as it was.
 ///
 /// The witness is real. Records are tried from the last of the last model on, again until none is

@@ -2,7 +2,7 @@
 //!
 //! | module | holds |
 //! |---|---|
-//! | `evaluations` | `Evaluations`, a count that evaluation alone makes rise |
+//! | `evaluations` | `Evaluations`, a count that `value_counted` alone makes rise |
 //! | `values` | `value_counted`, which evaluates |
 #![tactic(auto)]
 
