@@ -7,7 +7,7 @@ use std::alloc::{AllocError, Global};
 use std::test::Fail;
 
 const USAGE: &str =
-    "usage: init SPEC [DATA], check [SPEC] SCRIPT, apply SCRIPT, show, serve, gen N, prove SPEC SCRIPT, recheck SPEC SCRIPT CERT\n";
+    "usage: init SPEC [DATA], check [SPEC] SCRIPT, apply SCRIPT, show, serve, gen N, prove SPEC SCRIPT, recheck SPEC SCRIPT CERT, impact SPEC SCRIPT\n";
 
 /// Words, which fetch fails, and then the status, what is written, and how many files were fetched.
 type Row = (&'static [&'static str], u64, Status, &'static str, u64);
