@@ -1,0 +1,4 @@
+pub mod Tests
+pub mod Named
+pub mod Orders
+pub mod Soundness

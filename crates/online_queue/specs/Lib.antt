@@ -1,0 +1,4 @@
+pub mod Records
+pub mod Waiting
+pub mod Sound
+pub mod Public
