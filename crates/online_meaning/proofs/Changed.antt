@@ -139,7 +139,7 @@ module _ (d : Database) (m : ℕ) (r : Record) (t : Table) (at : table_of d m �
   abbrev grown : Database
   grown = change_table m (with_record r) d
 
-  make-rows : records_of grown m ≡ records_of d m ++ r ∷ []
+  pub make-rows : records_of grown m ≡ records_of d m ++ r ∷ []
   make-rows = rows-at m (with_record r) (λ u. refl) (λ rs. rs ++ r ∷ []) (λ u. refl) d t at
 
   pub make-ids : (n : ℕ) → (n == m) ≡ false → ids_of grown n ≡ ids_of d n
@@ -195,6 +195,21 @@ id-left id i (r ∷ rs) there =
           elim (r.id == i) as (λ (b : Bool). (b || is-id (without_first (id_is id) rs) i) ≡ true → (b || is-id rs i) ≡ true) [ true ↦ λ k. refl | false ↦ λ k. id-left id i rs k ] h
     ] there
 
+id-stays : (id i : ℕ) (rs : List Record) → (i == id) ≡ false → is-id rs i ≡ true → is-id (without_first (id_is id) rs) i ≡ true
+id-stays id i [] other there = cc
+id-stays id i (r ∷ rs) other there =
+    elim (r.id == id) as (λ (b : Bool). (r.id == id) ≡ b → is-id (if b then rs else r ∷ without_first (id_is id) rs) i ≡ true) [
+      | true ↦ λ is.
+          let differs : (r.id == i) ≡ false
+          = ne_eqb r.id i (λ e. let same : (i == id) ≡ true = eq-eqb i id (sym e ∙ eqb-true _ _ is) in let never : true ≡ false = sym same ∙ other in cc) in
+          sym (ap (λ b. b || is-id rs i) differs) ∙ there
+      | false ↦ λ is.
+          elim (r.id == i) as (λ (b : Bool). (b || is-id rs i) ≡ true → (b || is-id (without_first (id_is id) rs) i) ≡ true) [
+            | true ↦ λ h. refl
+            | false ↦ λ h. id-stays id i rs other h
+          ] there
+    ] refl
+
 none-is : (id : ℕ) (rs : List Record) → AllByRecursion (λ (r : Record). (r.id == id) ≡ false) rs → is-id rs id ≡ false
 none-is id [] all = refl
 none-is id (r ∷ rs) all = ap (λ b. b || is-id rs id) all.0 ∙ none-is id rs all.1
@@ -213,7 +228,7 @@ module _ (d : Database) (m id : ℕ) where
   abbrev shrunk : Database
   shrunk = without_record m id d
 
-  erase-rows : records_of shrunk m ≡ without_first (id_is id) (records_of d m)
+  pub erase-rows : records_of shrunk m ≡ without_first (id_is id) (records_of d m)
   erase-rows = rows-by m (without_record_in id) (λ t. refl) (without_first (id_is id)) (λ t. refl) refl d
 
   pub erase-ids : (n : ℕ) → (n == m) ≡ false → ids_of shrunk n ≡ ids_of d n
@@ -229,6 +244,11 @@ module _ (d : Database) (m id : ℕ) where
             subst (λ (k : ℕ). has_record d k i ≡ true) (sym model) (id-left id i (records_of d m) own)
         | false ↦ λ other. ap (λ rs. is-id rs i) (sym (records-other m (without_record_in id) (λ t. refl) d n other)) ∙ there
       ] refl
+
+  pub erase-stays : (n i : ℕ) → ((n == m) && (i == id)) ≡ false → has_record d n i ≡ true → has_record shrunk n i ≡ true
+  erase-stays n i other there =
+      of-each m (without_record_in id) (λ t. refl) (without_first (id_is id)) (λ t. refl) (λ rs. is-id rs i) d erase-rows n
+      (λ is. id-stays id i (records_of d n) (and-last (n == m) (i == id) is other) there ∙ sym there) ∙ there
 
   -- the record is gone
   pub erase-gone : IsStrictlyIncreasing (ids_of d m) → has_record shrunk m id ≡ false

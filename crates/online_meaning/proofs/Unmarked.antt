@@ -91,19 +91,19 @@ module _ (t : Script) (is : IsScript t) where
     -- ---- a record made
 
     module _ (m : ℕ) (row : List Value) (info : ModelInfo) (found : model_of s m ≡ Some info) (admitted : IsAdmitted info d row) where
-      abbrev after-make : Database
+      abbrev pub after-make : Database
       after-make = changed_by s (make m row) d
 
-      is-row : after-make ≡ with_row info row d
+      pub is-row : after-make ≡ with_row info row d
       is-row = ap (λ o. option_map_or (λ (i : ModelInfo). with_row i row d) o d) found
 
-      number : info.number ≡ m
+      pub number : info.number ≡ m
       number = eqb-true _ _ (find-holds (λ (u : ModelInfo). u.number == m) s.models info found)
 
-      its-table : HasTable d info
+      pub its-table : HasTable d info
       its-table = find-among (HasTable d) (λ (u : ModelInfo). u.number == m) s.models info over.tables found
 
-      abbrev new-row : Record
+      abbrev pub new-row : Record
       new-row = record { id = next_of d info.number; slots = slots_from info.fields row }
 
       pub row-over : IsDatabase s after-make
@@ -112,7 +112,7 @@ module _ (t : Script) (is : IsScript t) where
       pub row-only : HasNoFurtherTables s after-make
       row-only = subst (HasNoFurtherTables s) (sym is-row) (only-kept s info.number (with_record new-row) (λ u. refl) d only)
 
-      row-has : (n i : ℕ) → has_record d n i ≡ true → has_record after-make n i ≡ true
+      pub row-has : (n i : ℕ) → has_record d n i ≡ true → has_record after-make n i ≡ true
       row-has n i h = subst (λ (u : Database). has_record u n i ≡ true) (sym is-row) (make-has d info.number new-row its-table.0 its-table.1 n i h)
 
       abbrev made-id : RecordId
@@ -148,7 +148,7 @@ module _ (t : Script) (is : IsScript t) where
     -- ---- a record erased
 
     module _ (m id : ℕ) (there-now : has_record d m id ≡ true) (unnamed : first_reference s d m id ≡ None) where
-      abbrev left : Database
+      abbrev pub left : Database
       left = without_record m id d
 
       pub left-over : IsDatabase s left

@@ -1,6 +1,7 @@
 pub mod Deep
 pub mod Events
 pub mod Finds
+pub mod Known
 pub mod Laws
 pub mod Marks
 pub mod Public

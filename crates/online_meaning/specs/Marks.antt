@@ -1,23 +1,14 @@
--- Which records a change marks, and the queue of marked records.
-use Rattle.std.specs.Prelude.{ℕ, zero, suc, Bool, true, false, not, ◌&&◌, ◌||◌, ◌==◌, List, [], ◌++◌, map, filter, if◌then◌else◌}
+-- Which records a change marks.
+use Rattle.std.specs.Prelude.{ℕ, zero, suc, Bool, true, false, ◌&&◌, ◌||◌, ◌==◌, List, [], map, if◌then◌else◌}
 use Rattle.std.specs.List.{list_any, flat_map}
 use Rattle.std.specs.Option.{option_map_or}
 use Rattle.type_schema.specs.Schema.{Added, ModelInfo}
 use Rattle.type_schema.specs.Script.{Script, count, schema_at}
 use Rattle.data_meaning.specs.declared.cells.Cell.{Cell}
 use Rattle.data_meaning.specs.Database.{Database, ids_of}
+pub use Rattle.online_queue.specs.declared.records.RecordId.{RecordId}
+pub use Rattle.online_queue.specs.Records.{same_record, is_among, without, marked}
 use Rattle.online_meaning.specs.Deep.{added_at, deep_cells, deep_finds}
-
--- a record, by its model and id
-pub record RecordId : Type 0 where
-  pub model : ℕ
-  pub id : ℕ
-
-abbrev pub same_record : RecordId → RecordId → Bool
-same_record r q = (r.model == q.model) && (r.id == q.id)
-
-abbrev pub is_among : RecordId → List RecordId → Bool
-is_among r records = list_any (same_record r) records
 
 abbrev pub same_cell : Cell → Cell → Bool
 same_cell c e = (c.model == e.model) && (c.id == e.id) && (c.field == e.field)
@@ -45,11 +36,3 @@ module _ (t : Script) where
   slow_records d =
       flat_map (λ (info : ModelInfo). if is_slow info.number then map (λ id. record { model = info.number; id = id }) (ids_of d info.number) else [])
       (schema_at t 0).models
-
--- the queue without a record
-abbrev pub without : RecordId → List RecordId → List RecordId
-without r queue = filter (λ q. not (same_record r q)) queue
-
--- records are marked: moved to the end of the queue, or put there
-abbrev pub marked : List RecordId → List RecordId → List RecordId
-marked records queue = filter (λ q. not (is_among q records)) queue ++ records

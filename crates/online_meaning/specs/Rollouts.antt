@@ -1,14 +1,15 @@
 -- Online migrations: lists of events, and what is stored after the switch.
-use Rattle.std.specs.Prelude.{◌≡◌, ◌⊎◌, ◌==◌, ℕ, zero, suc, Bool, true, false, List, [], ◌∷◌, ◌++◌, Option, None, Some, take, if◌then◌else◌, count_by, sum_by}
+use Rattle.std.specs.Prelude.{◌≡◌, ◌⊎◌, ◌==◌, ℕ, zero, suc, ◌+◌, Bool, true, false, List, [], ◌∷◌, ◌++◌, Option, None, Some, take, if◌then◌else◌, count_by, sum_by}
+use Rattle.std.specs.List.{AllByRecursion, IsDistinct}
 use Rattle.std.specs.Option.{option_map_or}
 use Rattle.type_schema.specs.Schema.{Added}
 use Rattle.type_schema.specs.Commands.{Command, create_model, delete_model, add_static, remove_static, add_principal, add_field, remove_field, update_field, weaken_field, update_model, weaken_model}
 use Rattle.type_schema.specs.Script.{Script, count, schema_at, command_at, IsScript}
 use Rattle.data_meaning.specs.Values.{Value, Nothing}
-use Rattle.data_meaning.specs.Database.{Record, Database, has_record, IsDatabase, HasNoFurtherTables}
+use Rattle.data_meaning.specs.Database.{Record, Database, ids_of, has_record, IsDatabase, HasNoFurtherTables}
 use Rattle.data_meaning.specs.Run.{init_value, change_slots, after_command, run_to, widened}
 use Rattle.online_meaning.specs.Deep.{added_by, added_at}
-use Rattle.online_meaning.specs.Marks.{RecordId, is_among, slow_records}
+use Rattle.online_meaning.specs.Marks.{RecordId, same_record, is_among, slow_records}
 use Rattle.online_meaning.specs.Events.{Event, batch, put, make, erase, switch, IsAccepted, changed_by, marked_after}
 
 -- The database, the queue of marked records, what the initialiser of the command behind the first k gave at the record with an id when
@@ -56,6 +57,12 @@ module _ (t : Script) where
   abbrev pub evaluations : List RecordId → ℕ
   evaluations queue = sum_by (λ (r : RecordId). added_count r.model) queue
 
+  -- how often the first k commands of a switch evaluate one: at each marked record that is there then
+  abbrev pub evaluated : Rollout → ℕ → ℕ
+  evaluated r zero = 0
+  evaluated r (suc k) =
+      evaluated r k + option_map_or (λ (a : Added). count_by (λ id. is_marked r a.model id) (ids_of (switched r k) a.model)) (added_at t k) 0
+
   -- ---- events
 
   -- a batch evaluates the initialisers at its records
@@ -99,15 +106,22 @@ module _ (t : Script) where
     -- the database is one over the schema before the script
     pub over : IsDatabase (schema_at t 0) r.database
     pub only : HasNoFurtherTables (schema_at t 0) r.database
+    -- each marked record is slow and there, and none is marked twice
+    pub slow : AllByRecursion (λ q. is_among q (slow_records t r.database) ≡ true) r.queue
+    pub once : IsDistinct same_record r.queue
     -- what was kept at a record that is not marked, and is there when the command comes, is what the initialiser gives there
     pub ready : (k : ℕ) (a : Added) → added_at t k ≡ Some a → (id : ℕ) → has_record (run_to t k (widened t r.database)) a.model id ≡ true
         → is_marked r a.model id ≡ false → r.kept k id ≡ init_value (run_to t k (widened t r.database)) a.init id
     -- what the switch made is what the script means on the database
     pub result : (made : Database) → r.result ≡ Some made → made ≡ run_to t (count t) (widened t r.database)
 
--- The law of online migrations: after every list of events what is kept is right, and where the switch came, what it made is the
--- script's meaning on the database as it stood then.
+-- The law of online migrations: after every list of events the queue is one of slow records, each once, what is kept is right, and where
+-- the switch came, what it made is the script's meaning on the database as it stood then.
 abbrev pub RolloutsEndRight : Type 0
 RolloutsEndRight =
     (t : Script) → IsScript t → (d : Database) → IsDatabase (schema_at t 0) d → HasNoFurtherTables (schema_at t 0) d → (events : List Event) (last : Rollout)
     → Goes t (begun t d) events last → IsRight t last
+
+-- The law of what a switch evaluates: as often as there are fields that the script adds to the models of the marked records.
+abbrev pub SwitchesEvaluateMarked : Type 0
+SwitchesEvaluateMarked = (t : Script) → IsScript t → (r : Rollout) → IsRight t r → evaluated t r (count t) ≡ evaluations t r.queue

@@ -1,7 +1,8 @@
 //! Laws over the definitions alone. Each is the contract of a function that does nothing.
 
+ghost use Rattle.online_meaning.specs.Known.{KnowledgeStays, SlowRecordsGo};
 ghost use Rattle.online_meaning.specs.Laws.{AddedStay, MarksSuffice, OldFieldsAreRead};
-ghost use Rattle.online_meaning.specs.Rollouts.{RolloutsEndRight};
+ghost use Rattle.online_meaning.specs.Rollouts.{RolloutsEndRight, SwitchesEvaluateMarked};
 ghost use Rattle.online_meaning.specs.Settled.{FindsSettleAll};
 ghost use Rattle.online_meaning.specs.Worked.{WorkedRollout};
 
@@ -16,6 +17,20 @@ pub fn finds_settle()
 /// give the same before and after it, and read the same cells deeply.
 pub fn marks_suffice()
     ensures { MarksSuffice }
+{}
+
+/// What is known of a slow record, which cells it reads deeply and what the initialisers give, stays
+/// so at each record that an event leaves and does not mark.
+#[tactic(auto, using(crate::proofs::Knowing::knowledge_stays))]
+pub fn knowledge_stays()
+    ensures { KnowledgeStays }
+{}
+
+/// The slow records after an event: a record made stands behind the others of its model, and one that
+/// is erased is left out.
+#[tactic(auto, using(crate::proofs::SlowAfter::slow_records_go))]
+pub fn slow_records_go()
+    ensures { SlowRecordsGo }
 {}
 
 /// What an initialiser gave a record is what the database after the script holds there, where the
@@ -36,6 +51,13 @@ pub fn old_fields_are_read()
 #[tactic(auto, using(crate::proofs::Ends::end_right))]
 pub fn rollouts_end_right()
     ensures { RolloutsEndRight }
+{}
+
+/// A switch evaluates an initialiser as often as the script adds fields to the models of the marked
+/// records.
+#[tactic(auto, using(crate::proofs::Counting::switches_evaluate_marked))]
+pub fn switches_evaluate_marked()
+    ensures { SwitchesEvaluateMarked }
 {}
 
 /// A worked rollout, which shows what is marked after each event and what the switch makes.

@@ -13,6 +13,7 @@
 //! | `specs/Marks.antt` | slow records, and queues of marked ones |
 //! | `specs/Events.antt` | events, what each changes and marks, and when it is refused |
 //! | `specs/Rollouts.antt` | lists of events, the switch, and the law of online migrations |
+//! | `specs/Known.antt` | what may be known of slow records while events come; the slow records after one |
 //! | `specs/Laws.antt` | the law of marks; that what an initialiser gave stays |
 //! | `specs/Worked.antt` | a worked rollout |
 #![tactic(auto)]
@@ -20,6 +21,6 @@
 mod laws;
 
 pub use laws::{
-    added_stay, finds_settle, marks_suffice, old_fields_are_read, rollouts_end_right,
-    worked_rollout,
+    added_stay, finds_settle, knowledge_stays, marks_suffice, old_fields_are_read,
+    rollouts_end_right, slow_records_go, switches_evaluate_marked, worked_rollout,
 };
