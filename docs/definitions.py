@@ -81,6 +81,18 @@ def imports(lines):
     return names, aliases
 
 
+def handed_on(all_crates):
+    """Where the names come from that a file of `specs/` hands on by `pub use`: (crate, module, name) by the name there."""
+    found = {}
+    for crate in all_crates:
+        specs = os.path.join(TOP, "crates", crate, "specs")
+        for path in files_below(specs, ".antt"):
+            module = os.path.relpath(path, specs)[:-5].replace(os.sep, ".")
+            names, _ = imports([line for line in read(path) if line.startswith("pub use ")])
+            found.update({(crate, module, name): origin for name, origin in names.items() if origin[0] != crate})
+    return found
+
+
 def cited_in(text, names, aliases):
     """The definitions that a piece of a file speaks of."""
     found = set()
@@ -249,13 +261,14 @@ def files_below(folder, ending):
 
 def citing_contracts(all_crates):
     """By definition, the public contracts that cite it: (crate, name)."""
-    citing = {}
+    citing, origins = {}, handed_on(all_crates)
     for crate in all_crates:
         for path in files_below(os.path.join(TOP, "crates", crate, "src"), ".rt"):
             lines = read(path)
             names, aliases = imports(lines)
             for item, text in contracts(lines):
                 for what in cited_in(text, names, aliases):
+                    what = origins.get(what, what)
                     found = citing.setdefault(what, [])
                     if (crate, item) not in found and (what[0] == crate or not is_for_tests(crate)):
                         found.append((crate, item))
@@ -271,7 +284,7 @@ def definitions_in(lines):
 
 def citing_definitions(all_crates):
     """By definition, the definitions that cite it."""
-    citing = {}
+    citing, origins = {}, handed_on(all_crates)
     for crate in all_crates:
         specs = os.path.join(TOP, "crates", crate, "specs")
         for path in files_below(specs, ".antt"):
@@ -281,6 +294,7 @@ def citing_definitions(all_crates):
             names.update({name: (crate, module, name) for _, name in heads(lines)})
             for name, text in definitions_in(lines):
                 for what in cited_in(text, names, aliases):
+                    what = origins.get(what, what)
                     if what != (crate, module, name):
                         citing.setdefault(what, []).append((crate, module, name))
     return citing

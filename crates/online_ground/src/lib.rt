@@ -1,4 +1,4 @@
-//! What the initialisers of a script give and read at a record, on the database as it stands.
+//! What the initialisers of a script give at a record, on the database as it stands.
 //!
 //! | module | holds |
 //! |---|---|

@@ -122,6 +122,6 @@ RolloutsEndRight =
     (t : Script) → IsScript t → (d : Database) → IsDatabase (schema_at t 0) d → HasNoFurtherTables (schema_at t 0) d → (events : List Event) (last : Rollout)
     → Goes t (begun t d) events last → IsRight t last
 
--- The law of what a switch evaluates: as often as there are fields that the script adds to the models of the marked records.
+-- The law of what a switch evaluates: once for each marked record and each field that the script adds to its model.
 abbrev pub SwitchesEvaluateMarked : Type 0
 SwitchesEvaluateMarked = (t : Script) → IsScript t → (r : Rollout) → IsRight t r → evaluated t r (count t) ≡ evaluations t r.queue

@@ -53,8 +53,8 @@ pub fn rollouts_end_right()
     ensures { RolloutsEndRight }
 {}
 
-/// A switch evaluates an initialiser as often as the script adds fields to the models of the marked
-/// records.
+/// A switch evaluates an initialiser once for each marked record and each field that the script
+/// adds to its model.
 #[tactic(auto, using(crate::proofs::Counting::switches_evaluate_marked))]
 pub fn switches_evaluate_marked()
     ensures { SwitchesEvaluateMarked }

@@ -113,6 +113,7 @@ impl Queue {
         ensures { (r : RecordId) → name_at self.old.names node ≡ Some r →
             self.new ≡ to_end r self.old }
     {
+        // its clause tells that each node is linked once
         let _first = self.rings.first(QUEUE);
         if self.rings.is_linked(node) {
             self.rings.move_to(QUEUE, node);
@@ -128,6 +129,7 @@ impl Queue {
         ensures { (r : RecordId) → name_at self.old.names node ≡ Some r →
             self.new ≡ taken_out r self.old }
     {
+        // its clause tells that each node is linked once
         let _first = self.rings.first(QUEUE);
         if self.rings.is_linked(node) {
             self.rings.unlink(node);
